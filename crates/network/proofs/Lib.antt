@@ -1,0 +1,11 @@
+pub mod Order
+pub mod Chains
+pub mod Rounds
+pub mod Walks
+pub mod Settles
+pub mod Rows
+pub mod Pigeons
+pub mod Traces
+pub mod Marks
+pub mod Turns
+pub mod Turned

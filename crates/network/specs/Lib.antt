@@ -1,0 +1,5 @@
+pub mod Network
+pub mod Refusals
+pub mod Faults
+pub mod Reckoning
+pub mod Rounds
