@@ -35,6 +35,11 @@ pub const TABLES: usize = 2_048;
 /// The length of the working memory of marks: a row for each round, and two more to trace a ring by.
 pub const MARKS: usize = 1_050_624;
 
+/// The greatest size of a floor.
+pub const FLOOR_SIZE: u32 = 110_000_000;
+/// The greatest size of a duration.
+pub const DURATION_SIZE: u32 = 100_000;
+
 // Stands for no arc, and for an event that is not marked.
 const NO_ARC: u16 = 65_535;
 
@@ -225,7 +230,7 @@ fn floor_over<K: Kind>(floors: &[K]) -> bool
     ensures { λ r. ⌜ Decides r (Some-of (λ x. 110000000 < K·Kind .time .size x) (now (floors .entry))) ⌝ }
 {
     for floor in floors {
-        if floor.size() > 110_000_000 {
+        if floor.size() > FLOOR_SIZE {
             return true;
         }
     }
@@ -237,7 +242,7 @@ fn duration_over<K: Kind>(arcs: &[Arc<K>]) -> bool
     ensures { λ r. ⌜ Decides r (Some-of (λ a. 100000 < K·Kind .time .size (a .duration)) (now (arcs .entry))) ⌝ }
 {
     for arc in arcs {
-        if arc.duration.size() > 100_000 {
+        if arc.duration.size() > DURATION_SIZE {
             return true;
         }
     }

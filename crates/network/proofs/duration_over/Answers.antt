@@ -7,8 +7,8 @@ use Rattle.network.specs.Reckoning.{arc-at}
 use Rattle.network.proofs.Strays.{some-at, some-none}
 use Rattle.network.proofs.duration_over.Needs as need
 
-pub returns-then-size-gt100000 : need.returns-then-size-gt100000
-returns-then-size-gt100000 g c =
+pub returns-then-size-gt-DURATION-SIZE : need.returns-then-size-gt-DURATION-SIZE
+returns-then-size-gt-DURATION-SIZE g c =
     let t = g .K·Kind .time in
     let read : c .arc-item .result ≡ arc-at t (c .args .arcs .now) (c .loop-arc .arc-index) = getD-read _ _ _ (c .loop-arc-test .taken) (c .arc-item .is) _ in
     let same = ap (λ a. t .size (a .duration)) read in

@@ -6,8 +6,8 @@ use Rattle.std.proofs.shelf.Tests.{false≢true}
 use Rattle.network.proofs.Strays.{some-at, some-none}
 use Rattle.network.proofs.floor_over.Needs as need
 
-pub returns-then-size-gt110000000 : need.returns-then-size-gt110000000
-returns-then-size-gt110000000 g c =
+pub returns-then-size-gt-FLOOR-SIZE : need.returns-then-size-gt-FLOOR-SIZE
+returns-then-size-gt-FLOOR-SIZE g c =
     let t = g .K·Kind .time in
     let same = ap (t .size) (getD-read _ _ _ (c .loop-floor-test .taken) (c .floor-item .is) (t .none)) in
     ((λ _. some-at (λ x. 110000000 < t .size x) (t .none) (c .args .floors .now) (c .loop-floor .floor-index) (c .loop-floor-test .taken) (omega (arith, c .size .ensures))), (λ _. refl))
