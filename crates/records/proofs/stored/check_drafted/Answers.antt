@@ -19,7 +19,8 @@ returns-then-not-run-unused g c =
     let xs = c .args .v .runs .now in
     let n = c .args .v .«run_count» in
     let long = length-take-le n xs (c .pre) in
-    let same = getD-take n xs (c .loop-i .i) _ (c .loop-i-test .taken) in
+    let inside : c .loop-i .i < n = omega arith in
+    let same = getD-take n xs (c .loop-i .i) _ inside in
     ((λ e. absurd (false≢true e)), λ all. absurd (both-ways _ (c .if-not-run-unused .taken) (c .run-unused .ensures .1 (subst P (same ∙ sym (c .run-of .ensures)) (all .each (c .loop-i .i) (omega arith))))))
 
 pub loop-i-again : need.loop-i-again
