@@ -9,3 +9,9 @@ pub mod Traces
 pub mod Marks
 pub mod Turns
 pub mod Turned
+pub mod Foremosts
+pub mod Tables
+pub mod Solved
+pub mod Strays
+pub mod Refusals
+pub mod Checks

@@ -8,7 +8,9 @@ use lib.ListN.{length, getD, take, drop}
 use Rattle.std.specs.shelf.Lists.{All}
 use Rattle.kinds.specs.Time.{Time}
 use Rattle.network.specs.declared.Arc.{Arc}
-use Rattle.network.specs.Network.{UpTo, After, Network, LatestWalks, ends}
+use Rattle.std.specs.declared.option.Option.{Option}
+use Rattle.std.specs.declared.option.Option.the-variants.{Some, None}
+use Rattle.network.specs.Network.{UpTo, After, Network, LatestWalks, ends, Least, HasRing, Names, NoTable}
 use Rattle.network.specs.Reckoning.{at, arc-at, placed, network-of}
 
 -- row j of a memory of rows of n places
@@ -75,3 +77,8 @@ module _ {K : Type 0} (t : Time K) where
     pub circuit-is : reverse (ends t (placed t arcs) ks) ≡ front ++ back
     pub named : events ≡ back ++ front
     pub smallest : All (λ v. getD events 0 0 ≤ v) events
+
+  -- what solving answers: no number and the least times, or how many events of a ring stand at the front of ring memory
+  abbrev pub Solved : List K → List (Arc K) → List K → List ℕ → List ℕ → Option ℕ → Type 0
+  Solved floors arcs times was ring None = Least t (network-of t floors arcs) (at t times) × (HasRing t (placed t arcs) → ⊥) × (ring ≡ was)
+  Solved floors arcs times was ring (Some m) = Names t (placed t arcs) (take m ring) × NoTable t (network-of t floors arcs) × (drop m ring ≡ drop m was) × (m ≤ length floors)

@@ -4,13 +4,13 @@ ghost use mathlib.Core.Path.{_≡_};
 ghost use mathlib.Core.List.{reverse};
 ghost use lib.ListN.{length, getD, take, drop};
 ghost use Rattle.std.specs.Orderings.{Decides};
-ghost use Rattle.std.specs.Results.{Cases as ByResult};
+ghost use Rattle.std.specs.Options.{Cases as BySome};
 ghost use Rattle.std.specs.declared.option.Option.the-variants.{Some, None};
 ghost use Rattle.network.specs.Network.{Least, Ring, Names, HasRing, ends};
 ghost use Rattle.network.specs.Refusals.{Passed, Answers};
 ghost use Rattle.network.specs.Faults.{network-number, network-place};
-ghost use Rattle.network.specs.Reckoning.{at, placed, network-of, Handed, Some-of, Stray, first-stray, length-rows, network-rows, reckon-rows, TimesHold, RingHolds, RingExactly};
-ghost use Rattle.network.specs.Rounds.{Sound, Sized, Round, Settled, Rising, Turned};
+ghost use Rattle.network.specs.Reckoning.{at, placed, network-of, Some-of, Stray, first-stray, lengths, length-rows, network-rows, handed, first-rows, reckon-rows, TimesHold, RingHolds, RingExactly};
+ghost use Rattle.network.specs.Rounds.{Sound, Sized, Round, Settled, Rising, Turned, Solved};
 use kinds::Kind;
 
 mod faults;
@@ -175,4 +175,204 @@ fn name_ring<K: Kind>(arcs: &[Arc<K>], path: &[u16], ring: &mut [u16])
     list_ends(arcs, path, front);
     let first = smallest(front);
     front.rotate_left(first);
+}
+
+// The least times of a network, or a ring.
+fn solve<K: Kind>(
+    floors: &[K],
+    arcs: &[Arc<K>],
+    times: &mut [K],
+    next: &mut [K],
+    rows: &mut [u16],
+    path: &mut [u16],
+    seen: &mut [u16],
+    ring: &mut [u16],
+) -> Option<usize>
+    requires few { ⌜ length (now floors) ≤ 1024 ⌝ }
+    requires lengths { ⌜ length (now times) ≡ length (now floors) ⌝ ∗ ⌜ length (now next) ≡ length (now floors) ⌝ ∗ ⌜ length (now rows) ≡ length (now floors) * length (now floors) ⌝ ∗ ⌜ length (now path) ≡ length (now floors) ⌝ ∗ ⌜ length (now seen) ≡ length (now floors) ⌝ }
+    requires room { ⌜ length (now floors) ≤ length (now ring) ⌝ }
+    requires sound { ⌜ Sound (K·Kind .time) (length (now floors)) (now arcs) ⌝ }
+    requires sized { ⌜ Sized (K·Kind .time) 110000000 (now floors) ⌝ }
+    ensures { λ r. ⌜ Solved (K·Kind .time) (now (floors .entry)) (now (arcs .entry)) (now (times .exit)) (now (ring .entry)) (now (ring .exit)) r ⌝ }
+{
+    match settle(floors, arcs, times, next, rows) {
+        None => None,
+        Some(v) => {
+            let (start, end) = trace(floors, arcs, rows, v, path, seen);
+            name_ring(arcs, &path[start..end], ring);
+            Some(end - start)
+        }
+    }
+}
+
+// The first number in the arcs that names no event.
+fn stray<K: Kind>(events: usize, arcs: &[Arc<K>]) -> Option<u16>
+    ensures { λ r. ⌜ BySome r (Some-of (Stray events) (now (arcs .entry)) → ⊥) (λ p. Some-of (Stray events) (now (arcs .entry)) × (p ≡ first-stray events (now (arcs .entry)))) ⌝ }
+{
+    for arc in arcs {
+        if arc.from as usize >= events {
+            return Some(arc.from);
+        }
+        if arc.to as usize >= events {
+            return Some(arc.to);
+        }
+    }
+    None
+}
+
+// Whether a floor is over its size.
+fn floor_over<K: Kind>(floors: &[K]) -> bool
+    ensures { λ r. ⌜ Decides r (Some-of (λ x. 110000000 < K·Kind .time .size x) (now (floors .entry))) ⌝ }
+{
+    for floor in floors {
+        if floor.size() > 110_000_000 {
+            return true;
+        }
+    }
+    false
+}
+
+// Whether a duration is over its size.
+fn duration_over<K: Kind>(arcs: &[Arc<K>]) -> bool
+    ensures { λ r. ⌜ Decides r (Some-of (λ a. 100000 < K·Kind .time .size (a .duration)) (now (arcs .entry))) ⌝ }
+{
+    for arc in arcs {
+        if arc.duration.size() > 100_000 {
+            return true;
+        }
+    }
+    false
+}
+
+// Whether each memory has its listed length.
+fn check_lengths(
+    floors: usize,
+    arcs: usize,
+    times: usize,
+    ring: usize,
+    tables: usize,
+    marks: usize,
+) -> Result<(), NetworkFault>
+    ensures { λ r. ⌜ Answers network-number network-place (length-rows (lengths floors arcs times ring tables marks)) r ⌝ }
+{
+    if floors != EVENTS {
+        return Err(NetworkFault::Length);
+    }
+    if arcs != ARCS {
+        return Err(NetworkFault::Length);
+    }
+    if times != EVENTS {
+        return Err(NetworkFault::Length);
+    }
+    if ring != EVENTS {
+        return Err(NetworkFault::Length);
+    }
+    if tables != TABLES {
+        return Err(NetworkFault::Length);
+    }
+    if marks != MARKS {
+        return Err(NetworkFault::Length);
+    }
+    Ok(())
+}
+
+// Whether the network keeps its limits.
+fn check_network<K: Kind>(
+    events: usize,
+    arc_count: usize,
+    floors: &[K],
+    arcs: &[Arc<K>],
+) -> Result<(), NetworkFault>
+    ensures { λ r. ⌜ Answers network-number network-place (network-rows (K·Kind .time) events «arc_count» (now (floors .entry)) (now (arcs .entry))) r ⌝ }
+{
+    if let Some(place) = stray(events, arcs) {
+        return Err(NetworkFault::Event { place });
+    }
+    if floor_over(floors) {
+        return Err(NetworkFault::Floor);
+    }
+    if duration_over(arcs) {
+        return Err(NetworkFault::Duration);
+    }
+    if events > EVENTS {
+        return Err(NetworkFault::Count);
+    }
+    if arc_count > ARCS {
+        return Err(NetworkFault::Count);
+    }
+    Ok(())
+}
+
+// Whether reckon is handed what it can reckon.
+fn check<K: Kind>(
+    events: usize,
+    arc_count: usize,
+    floors: &[K],
+    arcs: &[Arc<K>],
+    times: usize,
+    ring: usize,
+    tables: usize,
+    marks: usize,
+) -> Result<(), NetworkFault>
+    ensures { λ r. ⌜ Answers network-number network-place (first-rows (K·Kind .time) (handed events «arc_count» (now (floors .entry)) (now (arcs .entry)) times ring tables marks)) r ⌝ }
+{
+    check_lengths(floors.len(), arcs.len(), times, ring, tables, marks)?;
+    let (kept_floors, _) = floors.split_at(events.min(EVENTS));
+    let (kept_arcs, _) = arcs.split_at(arc_count.min(ARCS));
+    check_network(events, arc_count, kept_floors, kept_arcs)
+}
+
+/// The least times of a network, or the ring that forbids them.
+///
+/// The network is the first `events` floors and the first `arc_count` arcs. Taken, the front of `times` holds the least times and
+/// everything else but working memory (`tables`, `marks`) is as it was. Refused, working memory alone has changed; for a ring its
+/// events also fill the front of `ring`, in arc order from the smallest.
+pub fn reckon<K: Kind>(
+    events: usize,
+    arc_count: usize,
+    floors: &[K],
+    arcs: &[Arc<K>],
+    times: &mut [K],
+    ring: &mut [u16],
+    tables: &mut [K],
+    marks: &mut [u16],
+) -> Result<(), NetworkFault>
+    ensures answer { λ r. ⌜ Answers network-number network-place (reckon-rows (K·Kind .time) (handed events «arc_count» (now (floors .entry)) (now (arcs .entry)) (length (now (times .entry))) (length (now (ring .entry))) (length (now (tables .entry))) (length (now (marks .entry))))) r ⌝ }
+    ensures times { λ r. ⌜ TimesHold (K·Kind .time) events «arc_count» (now (floors .entry)) (now (arcs .entry)) (now (times .entry)) (now (times .exit)) r ⌝ }
+    ensures ring { λ r. ⌜ RingHolds (K·Kind .time) events «arc_count» (now (arcs .entry)) (now (ring .entry)) (now (ring .exit)) r ⌝ }
+    ensures exactly { λ r. ⌜ RingExactly (K·Kind .time) (handed events «arc_count» (now (floors .entry)) (now (arcs .entry)) (length (now (times .entry))) (length (now (ring .entry))) (length (now (tables .entry))) (length (now (marks .entry)))) ⌝ }
+{
+    check(
+        events,
+        arc_count,
+        floors,
+        arcs,
+        times.len(),
+        ring.len(),
+        tables.len(),
+        marks.len(),
+    )?;
+    let (kept_floors, _) = floors.split_at(events);
+    let (kept_arcs, _) = arcs.split_at(arc_count);
+    let (now, next) = tables.split_at_mut(EVENTS);
+    let (rows, more) = marks.split_at_mut(EVENTS * EVENTS);
+    let (path, seen) = more.split_at_mut(EVENTS);
+    let table = &mut now[0..events];
+    match solve(
+        kept_floors,
+        kept_arcs,
+        table,
+        &mut next[0..events],
+        &mut rows[0..events * events],
+        &mut path[0..events],
+        &mut seen[0..events],
+        ring,
+    ) {
+        None => {
+            let front = &mut times[0..events];
+            front.copy_from_slice(table);
+            Ok(())
+        }
+        Some(count) => Err(NetworkFault::Ring { count }),
+    }
 }
