@@ -1,0 +1,4 @@
+pub mod Adds
+pub mod Parts
+pub mod Whole
+pub mod Fills

@@ -1,0 +1,4 @@
+pub mod Force
+pub mod Floors
+pub mod Constraints
+pub mod Added

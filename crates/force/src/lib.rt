@@ -1,0 +1,6 @@
+//! The constraints in force: from the entered records to a network of events, floors and arcs, and its least times or its ring.
+mod arcs;
+mod floors;
+
+pub use arcs::fill_arcs;
+pub use floors::fill_floors;
