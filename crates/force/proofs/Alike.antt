@@ -57,7 +57,7 @@ module _ {K : Type 0} (t : Time K) (A B : Arcs K) (there : Renames A B) where
         event = r .event;
         closed = renamed-chain (r .event) (r .event) ks (r .closed);
         apart = subst Q (sym (renamed-ends (r .event) (r .event) ks (r .closed))) (r .apart);
-        after = subst P (sym (renamed-along (t .none) (r .event) (r .event) ks (r .closed))) (r .after)
+        after = subst P (sym (renamed-along (t .none) (r .event) (r .event) ks (r .closed))) (r .after);
       }
 
   pub ring-there : HasRing t A → HasRing t B
@@ -91,7 +91,7 @@ module _ {K : Type 0} (t : Time K) (A B : Arcs K) (there : Renames A B) where
           back = n .back;
           circuit-is = ap reverse (renamed-ends e e (n .circuit) (n .ring .closed)) ∙ n .circuit-is;
           named = n .named;
-          smallest = n .smallest
+          smallest = n .smallest;
         }
 
 -- the same events and floors, and the same arcs under other names
@@ -110,19 +110,19 @@ module _ {K : Type 0} (t : Time K) (N M : Network K) (a : Alike N M) where
 
   pub meets-there : (time : ℕ → K) → Meets t N time → Meets t M time
   meets-there time m = record {
-      floors = λ v h. (let inside : v < N .events = omega (arith, a .events) in let P : K → Type 0 = λ x. UpTo t x (time v) in subst P (a .floors v inside) (m .floors v inside));
-      arcs = λ j has. (let b = a .back j has in let P : Arc K → Type 0 = λ x. UpTo t (t .join (time (x .from)) (x .duration)) (time (x .to)) in subst P (b .2) (m .arcs (b .0) (b .1)))
-    }
+    floors = λ v h. (let inside : v < N .events = omega (arith, a .events) in let P : K → Type 0 = λ x. UpTo t x (time v) in subst P (a .floors v inside) (m .floors v inside));
+    arcs = λ j has. (let b = a .back j has in let P : Arc K → Type 0 = λ x. UpTo t (t .join (time (x .from)) (x .duration)) (time (x .to)) in subst P (b .2) (m .arcs (b .0) (b .1)));
+  }
 
   pub reaches-there : (j v : ℕ) (x : K) → Reaches t N j v x → Reaches t M j v x
   reaches-there j v x r = record {
-      first = r .first;
-      walk = renamed t (N .arcs) (M .arcs) (a .there) (r .first) v (r .walk) (r .chain);
-      inside = omega (arith, r .inside, a .events);
-      chain = renamed-chain t (N .arcs) (M .arcs) (a .there) (r .first) v (r .walk) (r .chain);
-      count = renamed-length t (N .arcs) (M .arcs) (a .there) (r .first) v (r .walk) (r .chain) ∙ r .count;
-      value = r .value ∙ ap (λ y. along t (N .arcs) y (r .walk)) (a .floors (r .first) (r .inside)) ∙ sym (renamed-along t (N .arcs) (M .arcs) (a .there) (M .floor (r .first)) (r .first) v (r .walk) (r .chain))
-    }
+    first = r .first;
+    walk = renamed t (N .arcs) (M .arcs) (a .there) (r .first) v (r .walk) (r .chain);
+    inside = omega (arith, r .inside, a .events);
+    chain = renamed-chain t (N .arcs) (M .arcs) (a .there) (r .first) v (r .walk) (r .chain);
+    count = renamed-length t (N .arcs) (M .arcs) (a .there) (r .first) v (r .walk) (r .chain) ∙ r .count;
+    value = r .value ∙ ap (λ y. along t (N .arcs) y (r .walk)) (a .floors (r .first) (r .inside)) ∙ sym (renamed-along t (N .arcs) (M .arcs) (a .there) (M .floor (r .first)) (r .first) v (r .walk) (r .chain));
+  }
 
 module _ {K : Type 0} (t : Time K) (N M : Network K) (a : Alike N M) where
   pub no-table-there : NoTable t N → NoTable t M
@@ -130,9 +130,9 @@ module _ {K : Type 0} (t : Time K) (N M : Network K) (a : Alike N M) where
 
   pub walks-there : (m : ℕ) (time : ℕ → K) → LatestWalks t N m time → LatestWalks t M m time
   walks-there m time w = record {
-      reached = λ v h. (let r = w .reached v (omega (arith, a .events)) in (r .0, r .1, reaches-there t N M a (r .0) v (time v) (r .2)));
-      latest = λ v j x few r. w .latest v j x few (reaches-there t M N (turned-round N M a) j v x r)
-    }
+    reached = λ v h. (let r = w .reached v (omega (arith, a .events)) in (r .0, r .1, reaches-there t N M a (r .0) v (time v) (r .2)));
+    latest = λ v j x few r. w .latest v j x few (reaches-there t M N (turned-round N M a) j v x r);
+  }
 
   pub equation-there : (time : ℕ → K) (v : ℕ) → v < N .events → Equation t N time v → Equation t M time v
   equation-there time v inside e =
@@ -140,13 +140,13 @@ module _ {K : Type 0} (t : Time K) (N M : Network K) (a : Alike N M) where
       let Q : Arc K → Type 0 = λ x. UpTo t (t .join (time (x .from)) (x .duration)) (time v) in
       let E : Type 0 = (time v ≡ M .floor v) ⊎ ((k : M .arcs .Name) × M .arcs .Has k × (M .arcs .arc k .to ≡ v) × (time v ≡ t .join (time (M .arcs .arc k .from)) (M .arcs .arc k .duration))) in
       let equal : E = elim (e .equal) [
-          inl s ↦ inl (s ∙ a .floors v inside)
+        | inl s ↦ inl (s ∙ a .floors v inside)
         | inr s ↦ (let r = a .there (s .0) (s .1) in inr (r .0, r .1, ap (λ (x : Arc K). x .to) (r .2) ∙ s .2, s .3 ∙ sym (ap (λ (x : Arc K). t .join (time (x .from)) (x .duration)) (r .2))))
-        ] in
+      ] in
       record {
         floor = subst P (a .floors v inside) (e .floor);
         brings = λ j has ends-at. (let b = a .back j has in subst Q (b .2) (e .brings (b .0) (b .1) (ap (λ (x : Arc K). x .to) (b .2) ∙ ends-at)));
-        equal = equal
+        equal = equal;
       }
 
   pub least-there : (time : ℕ → K) → Least t N time → Least t M time
@@ -157,5 +157,5 @@ module _ {K : Type 0} (t : Time K) (N M : Network K) (a : Alike N M) where
         meets = meets-there t N M a time (l .meets);
         least = λ other s m v h. l .least other (table-there t M N (turned-round N M a) other s) (meets-there t M N (turned-round N M a) other m) v (omega (arith, a .events));
         walks = subst P (a .events) (walks-there (N .events - 1) time (l .walks));
-        equations = λ v h. (let inside : v < N .events = omega (arith, a .events) in equation-there time v inside (l .equations v inside))
+        equations = λ v h. (let inside : v < N .events = omega (arith, a .events) in equation-there time v inside (l .equations v inside));
       }

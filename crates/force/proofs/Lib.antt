@@ -6,3 +6,4 @@ pub mod Alike
 pub mod Fronts
 pub mod Sizes
 pub mod Networks
+pub mod Answered

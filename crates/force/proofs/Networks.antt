@@ -22,17 +22,17 @@ module _ {K : Type 0} (t : Time K) where
       let e : length (take n ys) ≡ n = length-take-le n ys room in
       record {
         each = λ k l. (let k-n : k < n = omega arith in rw (getD-take n ys k _ k-n) (h .each k k-n));
-        all = λ a p. (let r = h .all a p in (r .0, (omega (arith, r .1 .0), getD-take n ys (r .0) _ (r .1 .0) ∙ r .1 .1)))
+        all = λ a p. (let r = h .all a p in (r .0, (omega (arith, r .1 .0), getD-take n ys (r .0) _ (r .1 .0) ∙ r .1 .1)));
       }
 
   module _ (R : Register K) where
     pub alike : (floors : List K) (arcs : List (Arc K)) → length floors ≡ 2 * length (R .runs) → ((v : ℕ) → v < length floors → at t floors v ≡ floor-of t R v) → Listed t (InForce t R) arcs (length arcs) → Alike (network-of t floors arcs) (in-force t R)
     alike floors arcs events same listed = record {
-        events = events;
-        floors = same;
-        there = λ k h. (_, listed .each k h, refl);
-        back = λ a h. (let r = listed .all a h in (r .0, r .1 .0, r .1 .1))
-      }
+      events = events;
+      floors = same;
+      there = λ k h. (_, listed .each k h, refl);
+      back = λ a h. (let r = listed .all a h in (r .0, r .1 .0, r .1 .1));
+    }
 
     -- the fronts of the memories that are filled
     pub filled-alike : (floors : List K) (arcs : List (Arc K)) (m : ℕ) → 2 * length (R .runs) ≤ length floors → m ≤ length arcs → Filled t R floors → Listed t (InForce t R) arcs m → Alike (network-of t (take (2 * length (R .runs)) floors) (take m arcs)) (in-force t R)

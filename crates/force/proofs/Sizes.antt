@@ -74,10 +74,10 @@ module _ {K : Type 0} (t : Time K) where
 
     pub in-force-fit : Fit t (2 * length (R .runs)) (arcs-in-force t R)
     in-force-fit = record {
-        starts = λ a h. in-force-sound a h .starts;
-        ends = λ a h. in-force-sound a h .ends;
-        short = λ a h. in-force-sound a h .lasts .0
-      }
+      starts = λ a h. in-force-sound a h .starts;
+      ends = λ a h. in-force-sound a h .ends;
+      short = λ a h. in-force-sound a h .lasts .0;
+    }
 
     pub floor-small : (v : ℕ) → v < 2 * length (R .runs) → t .size (floor-of t R v) ≤ 1000000
     floor-small v h =
@@ -86,8 +86,8 @@ module _ {K : Type 0} (t : Time K) where
         let x = limits .runs .each (v / 2) inside in
         let y = run-in t R (v / 2) in
         elim (cases-eq (v % 2) 0) [
-          inl e ↦ subst P (sym (floor-even t R v e)) (departure-small (y .departed) (y .hold) (y .departure) (x .1 .1 .0) (x .1 .1 .1 .1 .0) (x .1 .0 .0))
-        | inr e ↦ subst P (sym (floor-odd t R v e)) (arrival-small (y .arrived) (y .arrival) (x .1 .1 .1 .0) (x .1 .0 .1 .0))
+          | inl e ↦ subst P (sym (floor-even t R v e)) (departure-small (y .departed) (y .hold) (y .departure) (x .1 .1 .0) (x .1 .1 .1 .1 .0) (x .1 .0 .0))
+          | inr e ↦ subst P (sym (floor-odd t R v e)) (arrival-small (y .arrived) (y .arrival) (x .1 .1 .1 .0) (x .1 .0 .1 .0))
         ]
 
     -- a time joined along at most 1,023 arcs from a floor
