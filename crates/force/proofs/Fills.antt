@@ -23,14 +23,14 @@ module _ {K : Type 0} (t : Time K) (R : Register K) where
       let ys = set xs (2 * r) d in
       let long : length ys ≡ length xs = length-set xs (2 * r) d in
       let other : (k : ℕ) → k < 2 * r → at t (set ys (2 * r + 1) a) k ≡ at t xs k =
-            λ k h. getD-set-other ys (2 * r + 1) k a _ (omega arith) ∙ getD-set-other xs (2 * r) k d _ (omega arith) in
+      λ k h. getD-set-other ys (2 * r + 1) k a _ (omega arith) ∙ getD-set-other xs (2 * r) k d _ (omega arith) in
       record {
         departures = below-more (λ k. at t (set ys (2 * r + 1) a) (2 * k) ≡ departure-floor t (run-in t R k)) r
-          (λ k h. other (2 * k) (omega arith) ∙ old .departures k h)
-          (getD-set-other ys (2 * r + 1) (2 * r) a _ (omega arith) ∙ getD-set-same xs (2 * r) d _ (omega arith) ∙ is-d);
+            (λ k h. other (2 * k) (omega arith) ∙ old .departures k h)
+            (getD-set-other ys (2 * r + 1) (2 * r) a _ (omega arith) ∙ getD-set-same xs (2 * r) d _ (omega arith) ∙ is-d);
         arrivals = below-more (λ k. at t (set ys (2 * r + 1) a) (2 * k + 1) ≡ arrival-floor t (run-in t R k)) r
-          (λ k h. other (2 * k + 1) (omega arith) ∙ old .arrivals k h)
-          (getD-set-same ys (2 * r + 1) a _ (omega arith) ∙ is-a)
+            (λ k h. other (2 * k + 1) (omega arith) ∙ old .arrivals k h)
+            (getD-set-same ys (2 * r + 1) a _ (omega arith) ∙ is-a);
       }
 
   -- the floor of an even event, and of an odd one
@@ -41,7 +41,9 @@ module _ {K : Type 0} (t : Time K) (R : Register K) where
   floor-odd v e = rw (ne-eqb (v % 2) 0 e) refl
 
   pub filled : (floors : List K) → FloorsOf t R (length (R .runs)) floors → Filled t R floors
-  filled floors h = record { each = λ v inside. elim (cases-eq (v % 2) 0) [
-        inl e ↦ (let s : v ≡ 2 * (v / 2) = omega arith in ap (at t floors) s ∙ h .departures (v / 2) (omega arith) ∙ sym (floor-even v e))
+  filled floors h = record {
+    each = λ v inside. elim (cases-eq (v % 2) 0) [
+      | inl e ↦ (let s : v ≡ 2 * (v / 2) = omega arith in ap (at t floors) s ∙ h .departures (v / 2) (omega arith) ∙ sym (floor-even v e))
       | inr e ↦ (let s : v ≡ 2 * (v / 2) + 1 = omega arith in ap (at t floors) s ∙ h .arrivals (v / 2) (omega arith) ∙ sym (floor-odd v e))
-      ] }
+    ];
+  }

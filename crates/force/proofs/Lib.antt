@@ -2,3 +2,8 @@ pub mod Adds
 pub mod Parts
 pub mod Whole
 pub mod Fills
+pub mod Alike
+pub mod Fronts
+pub mod Sizes
+pub mod Networks
+pub mod Answered

@@ -39,24 +39,24 @@ module _ {K : Type 0} (t : Time K) where
       let P : Arc K → Option ℕ → Type 0 = λ a o. Cases o ⊥ (λ p. B p a) → Q a in
       let R : Arc K → Option ℕ → Type 0 = λ a o. Q a → Cases o ⊥ (λ p. B p a) in
       added-then t (Running r x) (Dwell r x) xs ys zs m k n h
-        (added-as t Q (Dwell r x) ys zs k n (λ a. subst (R a) (sym e) (λ z. z)) (λ a. subst (P a) (sym e) (λ z. z)) d)
+      (added-as t Q (Dwell r x) ys zs k n (λ a. subst (R a) (sym e) (λ z. z)) (λ a. subst (P a) (sym e) (λ z. z)) d)
 
   pub follow-same : (w : Track K) (u v : ℕ) (x y : Run K) (xs ys zs : List (Arc K)) (m k n : ℕ) → x .direction ≡ y .direction → Added t (Joins (y .departed) (2 * u) (2 * v) (w .headway)) xs m ys k → Added t (Joins (y .arrived) (2 * u + 1) (2 * v + 1) (w .headway)) ys k zs n → Added t (Follows w u x v y) xs m zs n
   follow-same w u v x y xs ys zs m k n e p q =
       let D : Arc K → Type 0 = Joins (y .departed) (2 * u) (2 * v) (w .headway) in
       let A : Arc K → Type 0 = Joins (y .arrived) (2 * u + 1) (2 * v + 1) (w .headway) in
       added-as t (λ a. D a ⊎ A a) (Follows w u x v y) xs zs m n
-        (λ a h. elim h [ inl d ↦ inl (e, d) | inr b ↦ inr (inl (e, b)) ])
-        (λ a h. elim h [ inl d ↦ inl (d .1) | inr (inl b) ↦ inr (b .1) | inr (inr c) ↦ absurd (c .0 e) ])
-        (added-then t D A xs ys zs m k n p q)
+      (λ a h. elim h [ inl d ↦ inl (e, d) | inr b ↦ inr (inl (e, b)) ])
+      (λ a h. elim h [ inl d ↦ inl (d .1) | inr (inl b) ↦ inr (b .1) | inr (inr c) ↦ absurd (c .0 e) ])
+      (added-then t D A xs ys zs m k n p q)
 
   pub follow-meets : (w : Track K) (u v : ℕ) (x y : Run K) (xs ys : List (Arc K)) (m n : ℕ) → (x .direction ≡ y .direction → ⊥) → Added t (Joins (y .departed) (2 * u + 1) (2 * v) (w .meeting)) xs m ys n → Added t (Follows w u x v y) xs m ys n
   follow-meets w u v x y xs ys m n e p =
       let M : Arc K → Type 0 = Joins (y .departed) (2 * u + 1) (2 * v) (w .meeting) in
       added-as t M (Follows w u x v y) xs ys m n
-        (λ a h. inr (inr (e, h)))
-        (λ a h. elim h [ inl d ↦ absurd (e (d .0)) | inr (inl b) ↦ absurd (e (b .0)) | inr (inr c) ↦ c .1 ])
-        p
+      (λ a h. inr (inr (e, h)))
+      (λ a h. elim h [ inl d ↦ absurd (e (d .0)) | inr (inl b) ↦ absurd (e (b .0)) | inr (inr c) ↦ c .1 ])
+      p
 
   pub turns-not : (w : Track K) (b i j : ℕ) (x y : Run K) (xs ys : List (Arc K)) (m n : ℕ) → b ≡ 0 → Added t (Follows w i x j y) xs m ys n → Added t (Turns w b i x j y) xs m ys n
   turns-not w b i j x y xs ys m n e h = added-as t (Follows w i x j y) (Turns w b i x j y) xs ys m n
@@ -79,7 +79,7 @@ module _ {K : Type 0} (t : Time K) where
       let Y : Run K → Type 0 = λ z. Added t (Turns (track-at t (R .tracks) (z .track)) (R .order i j) i (run-in t R i) j z) xs m ys n in
       let T : Arc K → Type 0 = Turns (track-at t (R .tracks) (track-in t R j)) (R .order i j) i (run-in t R i) j (run-in t R j) in
       added-as t T (OrderOf t R j i) xs ys m n (λ a f. (shared, f)) (λ a f. f .1)
-        (subst Y is-y (subst X is-x (subst B is-b (subst W is-w h))))
+      (subst Y is-y (subst X is-x (subst B is-b (subst W is-w h))))
 
   pub keeps-not : (b : ℕ) (c : Connection K) (o : Run K) (xs : List (Arc K)) (m : ℕ) → (b ≡ 0 → ⊥) → Added t (Keeps b c o) xs m xs m
   keeps-not b c o xs m e = added-none t (Keeps b c o) xs m (λ a h. e (h .0))

@@ -61,7 +61,15 @@ fn add_run<K: Kind>(r: usize, run: Run<K>, arcs: &mut [Arc<K>], m: usize) -> usi
 }
 
 // Adds what is in force from the run ahead, `x`, to the other, `y`.
-fn add_follow<K: Kind>(track: Track<K>, u: usize, x: Run<K>, v: usize, y: Run<K>, arcs: &mut [Arc<K>], m: usize) -> usize
+fn add_follow<K: Kind>(
+    track: Track<K>,
+    u: usize,
+    x: Run<K>,
+    v: usize,
+    y: Run<K>,
+    arcs: &mut [Arc<K>],
+    m: usize,
+) -> usize
     requires few { ⌜ u < 512 ⌝ ∗ ⌜ v < 512 ⌝ ∗ ⌜ m + 2 ≤ length (now arcs) ⌝ }
     ensures added { λ n. ⌜ Added (K·Kind .time) (Follows track u x v y) (now (arcs .entry)) m (now (arcs .exit)) n ⌝ }
     ensures room { λ n. ⌜ n ≤ m + 2 ⌝ }
@@ -69,18 +77,39 @@ fn add_follow<K: Kind>(track: Track<K>, u: usize, x: Run<K>, v: usize, y: Run<K>
     let a = 2 * u as u16;
     let b = 2 * v as u16;
     if x.direction == y.direction {
-        let departures = Arc { from: a, to: b, duration: track.headway };
-        let arrivals = Arc { from: a + 1, to: b + 1, duration: track.headway };
+        let departures = Arc {
+            from: a,
+            to: b,
+            duration: track.headway,
+        };
+        let arrivals = Arc {
+            from: a + 1,
+            to: b + 1,
+            duration: track.headway,
+        };
         let m = add_unless(y.departed, departures, arcs, m);
         add_unless(y.arrived, arrivals, arcs, m)
     } else {
-        let meeting = Arc { from: a + 1, to: b, duration: track.meeting };
+        let meeting = Arc {
+            from: a + 1,
+            to: b,
+            duration: track.meeting,
+        };
         add_unless(y.departed, meeting, arcs, m)
     }
 }
 
 // Adds what is in force for the order of `i` and `j`.
-fn add_order<K: Kind>(track: Track<K>, setting: u8, i: usize, x: Run<K>, j: usize, y: Run<K>, arcs: &mut [Arc<K>], m: usize) -> usize
+fn add_order<K: Kind>(
+    track: Track<K>,
+    setting: u8,
+    i: usize,
+    x: Run<K>,
+    j: usize,
+    y: Run<K>,
+    arcs: &mut [Arc<K>],
+    m: usize,
+) -> usize
     requires few { ⌜ i < 512 ⌝ ∗ ⌜ j < 512 ⌝ ∗ ⌜ setting ≤ 1 ⌝ ∗ ⌜ m + 2 ≤ length (now arcs) ⌝ }
     ensures added { λ n. ⌜ Added (K·Kind .time) (Turns track setting i x j y) (now (arcs .entry)) m (now (arcs .exit)) n ⌝ }
     ensures room { λ n. ⌜ n ≤ m + 2 ⌝ }
@@ -108,7 +137,15 @@ fn add_runs<K: Kind>(v: View<K>, arcs: &mut [Arc<K>]) -> usize
 }
 
 // Adds what is in force for the orders of run `j` with earlier runs.
-fn add_orders_of<K: Kind>(v: View<K>, counts: &[u16], sums: &[u32], befores: &[u16], j: usize, arcs: &mut [Arc<K>], start: usize) -> usize
+fn add_orders_of<K: Kind>(
+    v: View<K>,
+    counts: &[u16],
+    sums: &[u32],
+    befores: &[u16],
+    j: usize,
+    arcs: &mut [Arc<K>],
+    start: usize,
+) -> usize
     requires limits { ⌜ Limits (K·Kind .time) (all-of (K·Kind .time) (seen v)) ⌝ ∗ ⌜ length (now (v .settings)) ≡ 4608 ⌝ }
     requires long { ⌜ length (now arcs) ≡ 9728 ⌝ ∗ ⌜ length (now counts) ≡ 512 ⌝ ∗ ⌜ length (now sums) ≡ 512 ⌝ ∗ ⌜ length (now befores) ≡ 512 ⌝ }
     requires laid { ⌜ Laid (track-in (K·Kind .time) (all-of (K·Kind .time) (seen v))) (length (now (v .runs))) (now counts) (now sums) (now befores) ⌝ }
@@ -132,7 +169,14 @@ fn add_orders_of<K: Kind>(v: View<K>, counts: &[u16], sums: &[u32], befores: &[u
 }
 
 // Adds what is in force for all orders.
-fn add_orders<K: Kind>(v: View<K>, counts: &[u16], sums: &[u32], befores: &[u16], arcs: &mut [Arc<K>], start: usize) -> usize
+fn add_orders<K: Kind>(
+    v: View<K>,
+    counts: &[u16],
+    sums: &[u32],
+    befores: &[u16],
+    arcs: &mut [Arc<K>],
+    start: usize,
+) -> usize
     requires limits { ⌜ Limits (K·Kind .time) (all-of (K·Kind .time) (seen v)) ⌝ ∗ ⌜ length (now (v .settings)) ≡ 4608 ⌝ }
     requires long { ⌜ length (now arcs) ≡ 9728 ⌝ ∗ ⌜ length (now counts) ≡ 512 ⌝ ∗ ⌜ length (now sums) ≡ 512 ⌝ ∗ ⌜ length (now befores) ≡ 512 ⌝ }
     requires laid { ⌜ Laid (track-in (K·Kind .time) (all-of (K·Kind .time) (seen v))) (length (now (v .runs))) (now counts) (now sums) (now befores) ⌝ }
@@ -149,7 +193,13 @@ fn add_orders<K: Kind>(v: View<K>, counts: &[u16], sums: &[u32], befores: &[u16]
 }
 
 // Adds a connection's arc while it is kept.
-fn add_connection<K: Kind>(setting: u8, connection: Connection<K>, onward: Run<K>, arcs: &mut [Arc<K>], m: usize) -> usize
+fn add_connection<K: Kind>(
+    setting: u8,
+    connection: Connection<K>,
+    onward: Run<K>,
+    arcs: &mut [Arc<K>],
+    m: usize,
+) -> usize
     requires few { ⌜ connection .feeder < 512 ⌝ ∗ ⌜ connection .onward < 512 ⌝ ∗ ⌜ m < length (now arcs) ⌝ }
     ensures added { λ n. ⌜ Added (K·Kind .time) (Keeps setting connection onward) (now (arcs .entry)) m (now (arcs .exit)) n ⌝ }
     ensures room { λ n. ⌜ n ≤ m + 1 ⌝ }
@@ -183,7 +233,13 @@ fn add_connections<K: Kind>(v: View<K>, arcs: &mut [Arc<K>], start: usize) -> us
 }
 
 // Lists the arcs in force of a view of what is entered.
-fn list_arcs<K: Kind>(v: View<K>, counts: &mut [u16], sums: &mut [u32], befores: &mut [u16], arcs: &mut [Arc<K>]) -> usize
+fn list_arcs<K: Kind>(
+    v: View<K>,
+    counts: &mut [u16],
+    sums: &mut [u32],
+    befores: &mut [u16],
+    arcs: &mut [Arc<K>],
+) -> usize
     requires limits { ⌜ Limits (K·Kind .time) (all-of (K·Kind .time) (seen v)) ⌝ ∗ ⌜ length (now (v .settings)) ≡ 4608 ⌝ }
     requires long { ⌜ length (now arcs) ≡ 9728 ⌝ ∗ ⌜ length (now counts) ≡ 512 ⌝ ∗ ⌜ length (now sums) ≡ 512 ⌝ ∗ ⌜ length (now befores) ≡ 512 ⌝ }
     ensures listed { λ n. ⌜ Listed (K·Kind .time) (InForce (K·Kind .time) (all-of (K·Kind .time) (seen (v .entry)))) (now (arcs .exit)) n ⌝ }
@@ -196,7 +252,13 @@ fn list_arcs<K: Kind>(v: View<K>, counts: &mut [u16], sums: &mut [u32], befores:
 }
 
 /// Lists exactly the arcs in force at the front of `arcs`, and answers how many they are. What lies past them is free.
-pub fn fill_arcs<K: Kind>(v: View<K>, counts: &mut [u16], sums: &mut [u32], befores: &mut [u16], arcs: &mut [Arc<K>]) -> usize
+pub fn fill_arcs<K: Kind>(
+    v: View<K>,
+    counts: &mut [u16],
+    sums: &mut [u32],
+    befores: &mut [u16],
+    arcs: &mut [Arc<K>],
+) -> usize
     requires stored { ⌜ Stored (K·Kind .time) (seen v) ⌝ }
     requires lengths { ⌜ length (now (v .tracks)) ≡ 64 ⌝ ∗ ⌜ length (now (v .runs)) ≡ 512 ⌝ ∗ ⌜ length (now (v .connections)) ≡ 512 ⌝ ∗ ⌜ length (now (v .settings)) ≡ 4608 ⌝ }
     requires long { ⌜ length (now arcs) ≡ 9728 ⌝ ∗ ⌜ length (now counts) ≡ 512 ⌝ ∗ ⌜ length (now sums) ≡ 512 ⌝ ∗ ⌜ length (now befores) ≡ 512 ⌝ }

@@ -27,10 +27,11 @@ loop-i-holds g c =
 
 pub loop-i-again : need.loop-i-again
 loop-i-again g c =
-    let t = g .K·Kind .time in
-    (added-more t (ConnectionOf t (all-of t (seen (c .args .v)))) _ _ _ 0 (c .loop-i .i) _ _ _ (omega arith) (c .loop-i .inv .0)
-       (connection-is t (all-of t (seen (c .args .v))) (c .loop-i .i) (c .connection-of-connection .result) (c .run-of-onward .result) _ _ _ _ (c .connection-of-connection .ensures) (c .run-of-onward .ensures) (c .add-connection-m .ensures .added)),
-     omega (arith, c .add-connection-m .ensures .room, c .loop-i .inv .1))
+    let t = g .K·Kind .time in (
+      added-more t (ConnectionOf t (all-of t (seen (c .args .v)))) _ _ _ 0 (c .loop-i .i) _ _ _ (omega arith) (c .loop-i .inv .0)
+          (connection-is t (all-of t (seen (c .args .v))) (c .loop-i .i) (c .connection-of-connection .result) (c .run-of-onward .result) _ _ _ _ (c .connection-of-connection .ensures) (c .run-of-onward .ensures) (c .add-connection-m .ensures .added)),
+      omega (arith, c .add-connection-m .ensures .room, c .loop-i .inv .1),
+    )
 
 pub returns : need.returns
 returns g c =

@@ -25,9 +25,10 @@ add-orders-of-m-requires g c κs =
 pub loop-j-again : need.loop-j-again
 loop-j-again g c =
     let t = g .K·Kind .time in
-    let more = total-more (track-in t (all-of t (seen (c .args .v)))) (c .loop-j .j) in
-    (added-more t (λ j. Among (OrderOf t (all-of t (seen (c .args .v))) j) 0 j) _ _ _ 0 (c .loop-j .j) _ _ _ (omega arith) (c .loop-j .inv .0) (c .add-orders-of-m .ensures .added),
-     omega (arith, c .add-orders-of-m .ensures .room, c .loop-j .inv .1))
+    let more = total-more (track-in t (all-of t (seen (c .args .v)))) (c .loop-j .j) in (
+      added-more t (λ j. Among (OrderOf t (all-of t (seen (c .args .v))) j) 0 j) _ _ _ 0 (c .loop-j .j) _ _ _ (omega arith) (c .loop-j .inv .0) (c .add-orders-of-m .ensures .added),
+      omega (arith, c .add-orders-of-m .ensures .room, c .loop-j .inv .1),
+    )
 
 pub returns : need.returns
 returns g c =

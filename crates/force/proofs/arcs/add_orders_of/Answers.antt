@@ -64,11 +64,12 @@ loop-past-again g c =
     let summed = c .pre .laid .summed j (c .pre .inside) in
     let at : getD (c .args .sums .now) j 0 + getD (c .args .counts .now) i 0 ≡ place f i j = omega arith in
     let byte = ap (λ (k : ℕ). getD (c .args .v .settings .now) k 0) at in
-    let one = order-is t p (c .track-of-track .result) _ i j (c .run-of .result) (c .run-of-y .result) _ _ _ _ (c .track-of-track .ensures) byte (c .run-of .ensures) (c .run-of-y .ensures) shared (c .add-order-m .ensures .added) in
-    (added-back t (OrderOf t p j) _ _ _ q i past j _ _ _ (prev .within) (omega (arith, c .loop-past-test .taken)) (c .loop-past .inv .1) (λ r a l h x. prev .none r l h (x .0)) (c .loop-past .inv .0) one,
-     omega (arith, prev .within, c .loop-past .inv .1),
-     prev .on,
-     omega (arith, passed, c .add-order-m .ensures .room, c .loop-past .inv .3))
+    let one = order-is t p (c .track-of-track .result) _ i j (c .run-of .result) (c .run-of-y .result) _ _ _ _ (c .track-of-track .ensures) byte (c .run-of .ensures) (c .run-of-y .ensures) shared (c .add-order-m .ensures .added) in (
+      added-back t (OrderOf t p j) _ _ _ q i past j _ _ _ (prev .within) (omega (arith, c .loop-past-test .taken)) (c .loop-past .inv .1) (λ r a l h x. prev .none r l h (x .0)) (c .loop-past .inv .0) one,
+      omega (arith, prev .within, c .loop-past .inv .1),
+      prev .on,
+      omega (arith, passed, c .add-order-m .ensures .room, c .loop-past .inv .3),
+    )
 
 pub loop-past-less : need.loop-past-less
 loop-past-less g c =

@@ -26,10 +26,11 @@ add-run-m-requires g c κs =
 
 pub loop-r-again : need.loop-r-again
 loop-r-again g c =
-    let t = g .K·Kind .time in
-    (added-more t (λ r. OfRun r (run-in t (all-of t (seen (c .args .v))) r)) _ _ _ 0 (c .loop-r .r) _ _ _ (omega arith) (c .loop-r .inv .0)
-       (run-is t (c .loop-r .r) (c .run-of .result) (run-in t (all-of t (seen (c .args .v))) (c .loop-r .r)) _ _ _ _ (c .run-of .ensures) (c .add-run-m .ensures .added)),
-     omega arith)
+    let t = g .K·Kind .time in (
+      added-more t (λ r. OfRun r (run-in t (all-of t (seen (c .args .v))) r)) _ _ _ 0 (c .loop-r .r) _ _ _ (omega arith) (c .loop-r .inv .0)
+          (run-is t (c .loop-r .r) (c .run-of .result) (run-in t (all-of t (seen (c .args .v))) (c .loop-r .r)) _ _ _ _ (c .run-of .ensures) (c .add-run-m .ensures .added)),
+      omega arith,
+    )
 
 pub returns : need.returns
 returns g c =

@@ -15,9 +15,9 @@ pub loop-r-again : need.loop-r-again
 loop-r-again g c =
     let t = g .K·Kind .time in
     rw (c .put-in-loop-r .ensures, c .put .ensures) (floors-more t (all-of t (seen (c .args .v))) (c .loop-r .r) (c .loop-r .floors) (c .departure-floor .result) (c .arrival-floor .result) (omega arith)
-      (c .departure-floor .ensures ∙ ap (departure-floor t) (c .run-of-run .ensures))
-      (c .arrival-floor .ensures ∙ ap (arrival-floor t) (c .run-of-run .ensures))
-      (c .loop-r .inv))
+    (c .departure-floor .ensures ∙ ap (departure-floor t) (c .run-of-run .ensures))
+    (c .arrival-floor .ensures ∙ ap (arrival-floor t) (c .run-of-run .ensures))
+    (c .loop-r .inv))
 
 pub returns : need.returns
 returns g c =
