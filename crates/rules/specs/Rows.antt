@@ -15,7 +15,7 @@ use Rattle.records.specs.declared.Track.{Track}
 use Rattle.records.specs.declared.Run.{Run}
 use Rattle.records.specs.declared.Connection.{Connection}
 use Rattle.records.specs.Records.{run-at, connection-at, track-of}
-use Rattle.records.specs.Places.{total, count}
+use Rattle.records.specs.Places.{total, count, place}
 use Rattle.records.specs.Register.{Register, Memory, register-of}
 use Rattle.records.specs.Stored.{Stored, Drafted, Shown}
 use Rattle.rules.specs.declared.switches.Switch.{Switch}
@@ -25,6 +25,16 @@ use Rattle.rules.specs.declared.switches.Switch.the-variants as switch
 abbrev pub Given : {X : Type 0} → Option X → Type 0
 Given None = ⊥
 Given (Some x) = Unit {0}
+
+-- the number, and 0 for none
+abbrev pub number-or-none : Option ℕ → ℕ
+number-or-none None = 0
+number-or-none (Some p) = p
+
+-- a number that is not below n, where there is one
+abbrev pub NotEarlier : ℕ → Option ℕ → Type 0
+NotEarlier n None = ⊥
+NotEarlier n (Some p) = n ≤ p
 
 module _ {K : Type 0} where
   -- the memories of records and settings have their lengths
@@ -43,6 +53,12 @@ module _ {K : Type 0} where
         ∷ row 2 0 (Drafted t (register-of t m) → ⊥)
         ∷ []
 
+    -- what is known of the memory of a draft where no such row applies
+    pub record SoundDraft (m : Memory K) : Type 0 where
+      pub listed : RecordsListed m
+      pub stored : Stored t m
+      pub drafted : Drafted t (register-of t m)
+
     -- every call on an open plan that shows times
     abbrev pub open-rows : Memory K → List K → List Row
     open-rows m shown =
@@ -51,6 +67,13 @@ module _ {K : Type 0} where
         ∷ row 2 0 (Stored t m → ⊥)
         ∷ row 2 0 (Shown t shown (2 * m .run-count) → ⊥)
         ∷ []
+
+    -- what is known of the memory of an open plan where no such row applies
+    pub record SoundOpen (m : Memory K) (shown : List K) : Type 0 where
+      pub listed : RecordsListed m
+      pub long : length shown ≡ 1024
+      pub stored : Stored t m
+      pub shown : Shown t shown (2 * m .run-count)
 
     -- a time over its size; a duration over its size or before nothing
     abbrev pub Over : K → Type 0
@@ -66,15 +89,6 @@ module _ {K : Type 0} where
         ∷ row 6 0 (64 ≤ length (R .tracks))
         ∷ row 7 0 (1000000 < x .penalty)
         ∷ []
-
-    -- the predecessor names no earlier run
-    abbrev pub NotEarlier : ℕ → Option ℕ → Type 0
-    NotEarlier n None = ⊥
-    NotEarlier n (Some p) = n ≤ p
-
-    abbrev pub number-or-none : Option ℕ → ℕ
-    number-or-none None = 0
-    number-or-none (Some p) = p
 
     -- how many orders there are with one more run on track x
     abbrev pub orders-with : Register K → ℕ → ℕ
@@ -109,6 +123,11 @@ module _ {K : Type 0} where
         ∷ row 3 j (track-of t (R .runs) i ≡ track-of t (R .runs) j → ⊥)
         ∷ []
     switch-rows R (switch.Connection c) = row 3 c (length (R .connections) ≤ c) ∷ []
+
+    -- where the setting of a switch has its byte
+    abbrev pub setting-place : Register K → Switch → ℕ
+    setting-place R (switch.Order i j) = place (track-of t (R .runs)) i j
+    setting-place R (switch.Connection c) = 4096 + c
 
     -- the setting of a switch
     abbrev pub setting-of : Register K → Switch → ℕ
