@@ -73,7 +73,7 @@ module _ {K : Type 0} where
       pub listed : RecordsListed m
       pub long : length shown ≡ 1024
       pub stored : Stored t m
-      pub shown : Shown t shown (2 * m .run-count)
+      pub sized : Shown t shown (2 * m .run-count)
 
     -- a time over its size; a duration over its size or before nothing
     abbrev pub Over : K → Type 0

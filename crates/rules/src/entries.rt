@@ -11,7 +11,10 @@ ghost use Rattle.records.specs.Register.{seen, all-of};
 ghost use Rattle.records.specs.Stored.{Limits};
 ghost use Rattle.rules.specs.Faults.{plan-number, plan-place};
 ghost use Rattle.rules.specs.Rows.{Over, NoDuration, track-rows, NotEarlier, number-or-none, orders-with, run-rows, connection-rows};
+use crate::CONNECTIONS;
 use crate::PlanFault;
+use crate::RUNS;
+use crate::TRACKS;
 use crate::over;
 use kinds::Kind;
 use records::Connection;
@@ -24,9 +27,6 @@ use records::run_of;
 const DURATION_SIZE: u32 = 100_000;
 const PENALTY: u32 = 1_000_000;
 const WEIGHT: u16 = 1_000;
-const TRACKS: usize = 64;
-const RUNS: usize = 512;
-const CONNECTIONS: usize = 512;
 const ORDERS: usize = 4_096;
 
 fn no_duration<K: Kind>(d: K) -> bool

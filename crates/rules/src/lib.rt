@@ -36,6 +36,15 @@ pub use settings::place_of;
 pub use settings::setting_of;
 pub use switches::Switch;
 
+/// The most tracks, and the length of their memory.
+pub const TRACKS: usize = 64;
+
+/// The most runs, and the length of their memory.
+pub const RUNS: usize = 512;
+
+/// The most connections, and the length of their memory.
+pub const CONNECTIONS: usize = 512;
+
 /// The length of the memory of setting bytes: 4,096 of orders, then 512 of connections.
 pub const SETTINGS: usize = 4_608;
 
@@ -48,7 +57,20 @@ pub const TIME_SIZE: u32 = 1_000_000;
 fn records_listed<K: Kind>(v: View<K>) -> bool
     ensures { λ r. ⌜ Decides r (RecordsListed (seen (v .entry))) ⌝ }
 {
-    v.tracks.len() == 64 && v.runs.len() == 512 && v.connections.len() == 512 && v.settings.len() == SETTINGS
+    let tracks = v.tracks.len();
+    let runs = v.runs.len();
+    let connections = v.connections.len();
+    let settings = v.settings.len();
+    if tracks != TRACKS {
+        return false;
+    }
+    if runs != RUNS {
+        return false;
+    }
+    if connections != CONNECTIONS {
+        return false;
+    }
+    settings == SETTINGS
 }
 
 /// What every call on a draft refuses first.
@@ -82,7 +104,8 @@ pub fn check_open<K: Kind>(v: View<K>, shown: &[K]) -> Result<(), PlanFault>
     if !check_stored(v) {
         return Err(PlanFault::Stored);
     }
-    if !check_shown(shown, 2 * v.run_count) {
+    let events = 2 * v.run_count;
+    if !check_shown(shown, events) {
         return Err(PlanFault::Stored);
     }
     Ok(())

@@ -124,6 +124,22 @@ pub fn check_setting<K: Kind>(v: View<K>, switch: Switch, setting: u8) -> Result
     Ok(())
 }
 
+fn one_departed<K: Kind>(v: View<K>, i: u16, j: u16) -> bool
+    requires { ⌜ i < length (now (v .runs)) ⌝ ∗ ⌜ j < length (now (v .runs)) ⌝ }
+    ensures { λ r. ⌜ Decides r (TooLate (K·Kind .time) (all-of (K·Kind .time) (seen (v .entry))) (named.Order i j)) ⌝ }
+{
+    departed(v, i) || departed(v, j)
+}
+
+fn onward_departed<K: Kind>(v: View<K>, c: u16) -> bool
+    requires limits { ⌜ Limits (K·Kind .time) (all-of (K·Kind .time) (seen v)) ⌝ }
+    requires known { ⌜ c < length (now (v .connections)) ⌝ }
+    ensures { λ r. ⌜ Decides r (TooLate (K·Kind .time) (all-of (K·Kind .time) (seen (v .entry))) (named.Connection c)) ⌝ }
+{
+    let onward = connection_of(v.connections, c as usize).onward;
+    departed(v, onward)
+}
+
 // Whether a run has departed that a switch would put off.
 fn too_late<K: Kind>(v: View<K>, switch: Switch) -> bool
     requires limits { ⌜ Limits (K·Kind .time) (all-of (K·Kind .time) (seen v)) ⌝ }
@@ -131,8 +147,8 @@ fn too_late<K: Kind>(v: View<K>, switch: Switch) -> bool
     ensures { λ r. ⌜ Decides r (TooLate (K·Kind .time) (all-of (K·Kind .time) (seen (v .entry))) switch) ⌝ }
 {
     match switch {
-        Switch::Order { i, j } => departed(v, i) || departed(v, j),
-        Switch::Connection { c } => departed(v, connection_of(v.connections, c as usize).onward),
+        Switch::Order { i, j } => one_departed(v, i, j),
+        Switch::Connection { c } => onward_departed(v, c),
     }
 }
 

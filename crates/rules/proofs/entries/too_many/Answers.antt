@@ -19,4 +19,9 @@ pub returns-then-v-ge-RUNS : need.returns-then-v-ge-RUNS
 returns-then-v-ge-RUNS g c = ((λ _. inl (omega arith)), λ _. refl)
 
 pub returns : need.returns
-returns g c = ?
+returns g c =
+    let a = c .count-orders .ensures in
+    let b = c .count-on .ensures in (
+      (λ e. let h = ltb-true 4096 (c .count-orders .result + c .count-on .result) e in inr (omega arith)),
+      (λ h. lt-ltb 4096 (c .count-orders .result + c .count-on .result) (elim h [ inl l ↦ absurd (omega (arith, c .if-v-ge-RUNS .left)) | inr l ↦ omega arith ])),
+    )

@@ -12,8 +12,8 @@ use Rattle.rules.proofs.settings.order_place.Needs as need
 pub split-at-requires : need.split-at-requires
 split-at-requires g c κs = omega (arith, c .pre .ordered .below, c .pre .ordered .inside)
 
-pub split-at-2-requires : need.split-at-2-requires
-split-at-2-requires g c κs = omega (arith, c .pre .ordered .inside)
+pub split-at-requires-2 : need.split-at-requires-2
+split-at-requires-2 g c κs = omega (arith, c .pre .ordered .inside)
 
 pub run-of-track-requires : need.run-of-track-requires
 run-of-track-requires g c κs = omega (arith, c .pre .ordered .below, c .pre .ordered .inside)
@@ -24,7 +24,7 @@ count-orders-requires g c κs =
     record {
       few = omega (arith, cut .front-len, c .pre .ordered .inside, c .pre .limits .few-runs);
       tracks = λ k h. (let in-j : k < c .args .j = omega (arith, cut .front-len) in
-        let same = ap (λ r. r .track) (cut .places .1 k _ in-j) in
+        let same : track-of (g .K·Kind .time) (c .split-at-2 .result .0 .now) k ≡ track-of (g .K·Kind .time) (c .args .v .runs .now) k = ap (λ r. r .track) (cut .places .1 k _ in-j) in
         let on = c .pre .limits .runs .each k (omega (arith, c .pre .ordered .inside)) .0 .1 .0 in omega (arith, c .pre .limits .few-tracks));
     }
 

@@ -9,8 +9,8 @@ use Rattle.rules.specs.declared.switches.Switch.{Switch}
 use Rattle.rules.proofs.Rows.{order-passed, link-passed, setting-inside}
 use Rattle.rules.proofs.settings.place_of.Needs as need
 
-pub order-place-requires-in-Order : need.order-place-requires-in-Order
-order-place-requires-in-Order g c κs =
+pub order-place-requires : need.order-place-requires
+order-place-requires g c κs =
     let t = g .K·Kind .time in
     let R = all-of t (seen (c .args .v)) in
     let P : Switch → Type 0 = λ s. Passed (switch-rows t R s) in
