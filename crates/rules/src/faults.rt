@@ -59,7 +59,7 @@ impl PlanFault {
             PlanFault::Departed => 9,
             PlanFault::Report => 10,
             PlanFault::Slip => 11,
-            PlanFault::Network(fault) => fault.number(),
+            PlanFault::Network(inner) => inner.number(),
         }
     }
 

@@ -47,8 +47,8 @@ fn held<K: Kind>(v: View<K>, run: u16) -> bool
 pub fn check_event<K: Kind>(v: View<K>, event: u16) -> Result<(), PlanFault>
     ensures { λ r. ⌜ Answers plan-number plan-place (event-rows (K·Kind .time) (all-of (K·Kind .time) (seen (v .entry))) event) r ⌝ }
 {
-    let run = event as usize / 2;
-    if run >= v.runs.len() {
+    let number = event as usize / 2;
+    if number >= v.runs.len() {
         return Err(PlanFault::Unknown { place: event });
     }
     Ok(())
