@@ -1,5 +1,5 @@
 -- What a test decided.
-use mathlib.Core.Path.{_≡_, refl, subst}
+use mathlib.Core.Path.{_≡_, subst}
 use mathlib.Core.Bool.{Bool, true, false}
 use Rattle.std.proofs.shelf.Tests.{both-ways}
 use Rattle.std.specs.Orderings.{Decides}

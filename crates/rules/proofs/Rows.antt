@@ -1,9 +1,9 @@
 -- What is known once no row of a call applies.
-use Prim.Native.Nat.{ℕ, _+_, _*_, _/_, _%_, _<_, _≤_}
-use mathlib.Core.Path.{_≡_, refl, sym, ap, _∙_, subst}
+use Prim.Native.Nat.{ℕ, _*_, _/_, _%_, _<_, _≤_}
+use mathlib.Core.Path.{_≡_, refl}
 use mathlib.Core.Bool.{true, false}
 use mathlib.Core.List.{List, [], _∷_, _++_}
-use mathlib.Core.Logic.{_⊎_, inl, inr}
+use mathlib.Core.Logic.{inl, inr}
 use native.Mathlib.Omega.{arith}
 use lib.ListN.{length, getD}
 use Rattle.std.proofs.shelf.Tests.{cases-eq, cases-lt, cases-bool}
@@ -16,13 +16,13 @@ use Rattle.records.specs.declared.Track.{Track}
 use Rattle.records.specs.declared.Run.{Run}
 use Rattle.records.specs.declared.Connection.{Connection}
 use Rattle.records.specs.Records.{run-at, track-of}
-use Rattle.records.specs.Places.{total, place, Ordered}
+use Rattle.records.specs.Places.{Ordered}
 use Rattle.records.specs.Register.{Register, Memory, all-of}
 use Rattle.records.specs.Stored.{Sized, Duration, TrackStored, Linked, Scheduled, ConnectionStored, Limits}
 use Rattle.records.proofs.Counts.{place-below}
 use Rattle.rules.specs.declared.switches.Switch.{Switch}
 use Rattle.rules.specs.declared.switches.Switch.the-variants as switch
-use Rattle.rules.specs.Rows.{Given, NotEarlier, Over, NoDuration, Departed, TooLate, Untimely, track-rows, orders-with, run-rows, connection-rows, switch-rows, setting-place, setting-of, setting-rows, turning-rows, event-rows, report-rows, hold-rows, release-rows}
+use Rattle.rules.specs.Rows.{Given, NotEarlier, NoDuration, TooLate, track-rows, orders-with, run-rows, connection-rows, switch-rows, setting-place, setting-of, setting-rows, turning-rows, event-rows, report-rows, hold-rows, release-rows}
 
 -- of more rows that do not apply the first do not
 pub passed-front : (xs ys : List Row) → Passed (xs ++ ys) → Passed xs

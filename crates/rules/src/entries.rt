@@ -1,5 +1,5 @@
 //! What entering a record refuses.
-ghost use Prim.Native.Nat.{ℕ, _+_, _<_, _≤_};
+ghost use Prim.Native.Nat.{_<_, _≤_};
 ghost use mathlib.Core.Path.{_≡_};
 ghost use mathlib.Core.Logic.{_⊎_};
 ghost use lib.ListN.{length};
@@ -25,8 +25,11 @@ use records::count_orders;
 use records::run_of;
 
 const DURATION_SIZE: u32 = 100_000;
+
 const PENALTY: u32 = 1_000_000;
+
 const WEIGHT: u16 = 1_000;
+
 const ORDERS: usize = 4_096;
 
 fn no_duration<K: Kind>(d: K) -> bool
@@ -126,7 +129,9 @@ pub fn check_run<K: Kind>(v: View<K>, run: Run<K>) -> Result<(), PlanFault>
         return Err(PlanFault::Unknown { place });
     }
     if not_earlier(v.runs.len(), run.predecessor) {
-        return Err(PlanFault::Unknown { place: number_or_none(run.predecessor) });
+        return Err(PlanFault::Unknown {
+            place: number_or_none(run.predecessor),
+        });
     }
     if times_over(run.departure, run.arrival) {
         return Err(PlanFault::Time);

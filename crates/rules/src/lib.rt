@@ -1,7 +1,4 @@
 //! The rules of the calls on a plan: what each refuses before it reckons.
-ghost use Prim.Native.Nat.{ℕ, _*_};
-ghost use mathlib.Core.Path.{_≡_};
-ghost use lib.ListN.{length};
 ghost use Rattle.std.specs.Orderings.{Decides};
 ghost use Rattle.std.specs.Results.{Cases};
 ghost use Rattle.network.specs.Refusals.{Answers};

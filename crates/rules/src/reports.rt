@@ -1,5 +1,5 @@
 //! What a call on an event, a report or a hold refuses.
-ghost use Prim.Native.Nat.{ℕ, _<_, _≤_};
+ghost use Prim.Native.Nat.{_<_, _≤_};
 ghost use mathlib.Core.Path.{_≡_};
 ghost use mathlib.Core.Bool.{false};
 ghost use lib.ListN.{length};
@@ -113,7 +113,12 @@ pub fn check_hold<K: Kind>(v: View<K>, run: u16, until: K) -> Result<(), PlanFau
 }
 
 /// What releasing a run by a slip refuses.
-pub fn check_release<K: Kind>(v: View<K>, plan: u32, slip_plan: u32, slip_run: u16) -> Result<(), PlanFault>
+pub fn check_release<K: Kind>(
+    v: View<K>,
+    plan: u32,
+    slip_plan: u32,
+    slip_run: u16,
+) -> Result<(), PlanFault>
     ensures { λ r. ⌜ Answers plan-number plan-place (release-rows (K·Kind .time) (all-of (K·Kind .time) (seen (v .entry))) plan «slip_plan» «slip_run») r ⌝ }
 {
     if slip_plan != plan {

@@ -1,5 +1,5 @@
 //! What a call on a setting refuses, and where the setting lies.
-ghost use Prim.Native.Nat.{ℕ, _+_, _<_, _≤_};
+ghost use Prim.Native.Nat.{_<_};
 ghost use mathlib.Core.Path.{_≡_};
 ghost use lib.ListN.{length};
 ghost use Rattle.std.specs.Orderings.{Decides};

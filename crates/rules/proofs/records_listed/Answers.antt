@@ -1,5 +1,3 @@
-use mathlib.Core.Path.{_≡_, refl}
-use native.Mathlib.Omega.{arith}
 use Rattle.std.proofs.shelf.Tests.{false≢true, eqb-true, eq-eqb}
 use Rattle.rules.proofs.records_listed.Needs as need
 

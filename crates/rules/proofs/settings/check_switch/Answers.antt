@@ -1,6 +1,4 @@
-use mathlib.Core.Path.{_≡_, refl, sym, ap, _∙_, subst}
-use mathlib.Core.Logic.{inl, inr}
-use native.Mathlib.Omega.{arith}
+use mathlib.Core.Path.{sym, subst}
 use Rattle.network.specs.Refusals.{Answers}
 use Rattle.records.specs.Register.{seen, all-of}
 use Rattle.rules.specs.Faults.{plan-number, plan-place}

@@ -1,6 +1,5 @@
-use mathlib.Core.Path.{_≡_, refl, sym, ap, _∙_, subst}
-use mathlib.Core.Logic.{inl, inr}
-use native.Mathlib.Omega.{arith}
+use mathlib.Core.Path.{refl}
+use mathlib.Core.Logic.{inl}
 use mathlib.Core.List.{[], _∷_}
 use Rattle.std.proofs.shelf.Results.{err-from-errBy}
 use Rattle.network.specs.Refusals.{row}

@@ -1,4 +1,3 @@
-use mathlib.Core.Path.{_≡_}
 use mathlib.Core.Logic.{inl, inr}
 use Rattle.rules.proofs.Decisions.{unless}
 use Rattle.rules.proofs.settings.one_departed.Needs as need

@@ -1,7 +1,6 @@
-use mathlib.Core.Path.{_≡_, refl, sym, ap, _∙_, subst}
-use mathlib.Core.Logic.{inl, inr}
+use mathlib.Core.Path.{_≡_, ap, _∙_}
 use native.Mathlib.Omega.{arith}
-use Prim.Native.Nat.{ℕ, _+_, _<_, _≤_}
+use Prim.Native.Nat.{ℕ, _<_}
 use lib.ListN.{length}
 use Rattle.records.specs.Records.{track-of}
 use Rattle.records.specs.Places.{count, total}
@@ -24,8 +23,8 @@ count-orders-requires g c κs =
     record {
       few = omega (arith, cut .front-len, c .pre .ordered .inside, c .pre .limits .few-runs);
       tracks = λ k h. (let in-j : k < c .args .j = omega (arith, cut .front-len) in
-        let same : track-of (g .K·Kind .time) (c .split-at-2 .result .0 .now) k ≡ track-of (g .K·Kind .time) (c .args .v .runs .now) k = ap (λ r. r .track) (cut .places .1 k _ in-j) in
-        let on = c .pre .limits .runs .each k (omega (arith, c .pre .ordered .inside)) .0 .1 .0 in omega (arith, c .pre .limits .few-tracks));
+          let same : track-of (g .K·Kind .time) (c .split-at-2 .result .0 .now) k ≡ track-of (g .K·Kind .time) (c .args .v .runs .now) k = ap (λ r. r .track) (cut .places .1 k _ in-j) in
+          let on = c .pre .limits .runs .each k (omega (arith, c .pre .ordered .inside)) .0 .1 .0 in omega (arith, c .pre .limits .few-tracks));
     }
 
 -- the two parts of the place

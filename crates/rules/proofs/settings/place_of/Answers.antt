@@ -1,12 +1,11 @@
-use mathlib.Core.Path.{_≡_, refl, sym, ap, _∙_, subst}
-use mathlib.Core.Logic.{inl, inr}
+use mathlib.Core.Path.{_≡_, sym, ap, _∙_, subst}
 use native.Mathlib.Omega.{arith}
-use Prim.Native.Nat.{_+_, _<_}
+use Prim.Native.Nat.{_+_}
 use Rattle.network.specs.Refusals.{Passed}
 use Rattle.records.specs.Register.{seen, all-of}
 use Rattle.rules.specs.Rows.{switch-rows, setting-place}
 use Rattle.rules.specs.declared.switches.Switch.{Switch}
-use Rattle.rules.proofs.Rows.{order-passed, link-passed, setting-inside}
+use Rattle.rules.proofs.Rows.{order-passed, setting-inside}
 use Rattle.rules.proofs.settings.place_of.Needs as need
 
 pub order-place-requires : need.order-place-requires

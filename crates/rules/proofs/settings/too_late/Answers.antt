@@ -1,7 +1,5 @@
-use mathlib.Core.Path.{_≡_, refl, sym, ap, _∙_, subst}
-use mathlib.Core.Logic.{inl, inr}
+use mathlib.Core.Path.{sym, subst}
 use native.Mathlib.Omega.{arith}
-use Prim.Native.Nat.{_<_}
 use Rattle.network.specs.Refusals.{Passed}
 use Rattle.records.specs.Register.{seen, all-of}
 use Rattle.rules.specs.Rows.{switch-rows, TooLate}
