@@ -10,6 +10,7 @@ use kinds::Kind;
 mod places;
 mod stored;
 
+pub use places::count_orders;
 pub use places::lay_out;
 pub use stored::check_drafted;
 pub use stored::check_shown;

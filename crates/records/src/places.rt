@@ -40,8 +40,8 @@ pub fn lay_out<K: Kind>(
     sum
 }
 
-// How many orders the runs have.
-pub(crate) fn count_orders<K: Kind>(runs: &[Run<K>]) -> u32
+/// How many orders the runs have.
+pub fn count_orders<K: Kind>(runs: &[Run<K>]) -> u32
     requires few { ⌜ length (now runs) ≤ 512 ⌝ }
     requires tracks { ⌜ OnTracks (K·Kind .time) (now runs) ⌝ }
     ensures { λ r. ⌜ r ≡ total (track-of (K·Kind .time) (now (runs .entry))) (length (now (runs .entry))) ⌝ }

@@ -1,0 +1,7 @@
+use Rattle.records.specs.declared.Run.{Run}
+use Rattle.rules.specs.Rows.{Given}
+use Rattle.rules.proofs.Decisions.{decides-at}
+use Rattle.rules.proofs.reports.held.Needs as need
+
+pub returns : need.returns
+returns g c = decides-at (λ (x : Run (g .K .Denot)). Given (x .hold)) (c .run-of .ensures) (c .given .ensures)
