@@ -1,0 +1,3 @@
+pub mod Stays
+pub mod Reckoned
+pub mod Ready

@@ -1,0 +1,10 @@
+//! Working plans.
+
+mod admits;
+mod changes;
+mod control;
+mod states;
+
+pub use states::Draft;
+pub use states::Open;
+pub use states::Slip;

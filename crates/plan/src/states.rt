@@ -1,0 +1,25 @@
+//! The two states of a plan, and the slip of a held run.
+
+/// A plan that is being entered: its number, and how many records it has.
+#[derive(Drop)]
+pub struct Draft {
+    pub(crate) number: u32,
+    pub(crate) tracks: u16,
+    pub(crate) runs: u16,
+    pub(crate) connections: u16,
+}
+
+/// A plan that shows times.
+#[derive(Drop)]
+pub struct Open {
+    pub(crate) number: u32,
+    pub(crate) tracks: u16,
+    pub(crate) runs: u16,
+    pub(crate) connections: u16,
+}
+
+/// A held run, which has to be released: a slip can be neither copied nor let go.
+pub struct Slip {
+    pub(crate) plan: u32,
+    pub(crate) run: u16,
+}
