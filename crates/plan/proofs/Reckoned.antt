@@ -22,6 +22,9 @@ use Rattle.plan.specs.Calls.{ring-rows, RingLeft, Reckons}
 abbrev pub failed : (X : Type 0) → PlanFault → Result X PlanFault
 failed X f = Err f
 
+abbrev pub taken : (X : Type 0) → X → Result X PlanFault
+taken X x = Ok x
+
 -- the fault of the network stays whole inside the plan's
 abbrev pub lifted : {X : Type 0} → Result X NetworkFault → Result X PlanFault
 lifted (Ok x) = Ok x
@@ -44,6 +47,17 @@ module _ {K : Type 0} (t : Time K) (rows : List Row) (R : Register K) where
     shows = shown;
     names = (found .names, found .rest, found .few);
   }
+
+  -- the same for a call that answers something else
+  pub reckoned-ok : (X : Type 0) (x : X) → Passed rows → (was times : List K) (ring-was ring : List ℕ) → TimesAfter t R was times (Ok tt) → RingAfter t R ring-was ring (Ok tt) → Reckons t rows R was times ring-was ring (taken X x)
+  reckoned-ok X x passed was times ring-was ring shown quiet =
+      let r = reckoned passed was times ring-was ring (Ok tt) shown quiet in
+      record { answers = r .answers; shows = r .shows; names = r .names }
+
+  pub reckoned-err : (X : Type 0) (f : NetworkFault) → Passed rows → (was times : List K) (ring-was ring : List ℕ) → TimesAfter t R was times (Err f) → RingAfter t R ring-was ring (Err f) → Reckons t rows R was times ring-was ring (failed X (fault.Network f))
+  reckoned-err X f passed was times ring-was ring shown found =
+      let r = reckoned passed was times ring-was ring (Err f) shown found in
+      record { answers = r .answers; shows = r .shows; names = r .names }
 
   -- a fault before the reckoning names no ring
   quiet : Under 12 rows → (ring : List ℕ) (f : PlanFault) → First rows (plan-number f) (plan-place f) → RingLeft t R ring ring f

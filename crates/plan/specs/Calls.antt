@@ -18,7 +18,19 @@ use Rattle.rules.specs.declared.faults.PlanFault.{PlanFault}
 use Rattle.rules.specs.declared.faults.PlanFault.the-variants as fault
 use Rattle.rules.specs.declared.switches.Switch.{Switch}
 use Rattle.rules.specs.Faults.{plan-number, plan-place}
+use Rattle.plan.specs.declared.states.Open.{Open}
+use Rattle.plan.specs.declared.states.Unopened.{Unopened}
+use Rattle.plan.specs.declared.states.Unreleased.{Unreleased}
 use Rattle.rules.specs.Rows.{RecordsListed, open-rows, report-rows, hold-rows, release-rows, turning-rows}
+
+-- the answer of a release or an opening, without what is handed back
+abbrev pub released : Result (Unit {0}) Unreleased → Result (Unit {0}) PlanFault
+released (Ok x) = Ok x
+released (Err u) = Err (u .fault)
+
+abbrev pub opened : Result Open Unopened → Result Open PlanFault
+opened (Ok x) = Ok x
+opened (Err u) = Err (u .fault)
 
 -- How long the memories are that a reckoning writes: the times shown, the ring, and working memory.
 pub record Lengths : Type 0 where

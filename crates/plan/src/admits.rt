@@ -11,8 +11,9 @@ ghost use Rattle.records.specs.Stored.{Stored};
 ghost use Rattle.rules.specs.Faults.{plan-number, plan-place};
 ghost use Rattle.rules.specs.Rows.{RecordsListed, SoundOpen, open-rows, report-rows, hold-rows, release-rows, turning-rows};
 ghost use Rattle.plan.specs.States.{open-memory};
-ghost use Rattle.plan.specs.Steps.{report-memory};
-ghost use Rattle.plan.specs.Calls.{Listed, lengths, length-rows, open-call-rows, report-call-rows, Ready};
+ghost use Rattle.std.specs.declared.option.Option.the-variants.{Some, None};
+ghost use Rattle.plan.specs.Steps.{report-memory, hold-memory};
+ghost use Rattle.plan.specs.Calls.{Listed, lengths, length-rows, open-call-rows, report-call-rows, hold-call-rows, release-call-rows, Ready};
 use crate::Open;
 use crate::changes::open_view;
 use kinds::Kind;
@@ -157,4 +158,88 @@ pub(crate) fn admit_report<K: Kind>(
     )?;
     let v = open_view(plan, tracks, runs, connections, settings);
     check_report(entered(v), event, at)
+}
+
+/// What a hold refuses before it reckons.
+pub(crate) fn admit_hold<K: Kind>(
+    plan: &Open,
+    tracks: &[Track<K>],
+    runs: &[Run<K>],
+    connections: &[Connection<K>],
+    settings: &[u8],
+    times: &[K],
+    ring: usize,
+    counts: usize,
+    sums: usize,
+    befores: usize,
+    floors: usize,
+    arcs: usize,
+    tables: usize,
+    marks: usize,
+    run: u16,
+    until: K,
+) -> Result<(), PlanFault>
+    ensures rows { λ r. ⌜ Answers plan-number plan-place (hold-call-rows (K·Kind .time) (lengths (length (now (times .entry))) ring counts sums befores floors arcs tables marks) (open-memory (now (plan .entry)) (now (tracks .entry)) (now (runs .entry)) (now (connections .entry)) (now (settings .entry))) (now (times .entry)) run until) r ⌝ }
+    ensures ready { λ r. ⌜ Cases r (λ _. (run < length (now (runs .entry))) × Ready (K·Kind .time) (lengths (length (now (times .entry))) ring counts sums befores floors arcs tables marks) (open-memory (now (plan .entry)) (now (tracks .entry)) (now (runs .entry)) (now (connections .entry)) (now (settings .entry))) (hold-memory (K·Kind .time) (open-memory (now (plan .entry)) (now (tracks .entry)) (now (runs .entry)) (now (connections .entry)) (now (settings .entry))) run (Some until))) (λ _. Unit {0}) ⌝ }
+{
+    admit(
+        plan,
+        tracks,
+        runs,
+        connections,
+        settings,
+        times,
+        ring,
+        counts,
+        sums,
+        befores,
+        floors,
+        arcs,
+        tables,
+        marks,
+    )?;
+    let v = open_view(plan, tracks, runs, connections, settings);
+    check_hold(entered(v), run, until)
+}
+
+/// What a release refuses before it reckons.
+pub(crate) fn admit_release<K: Kind>(
+    plan: &Open,
+    tracks: &[Track<K>],
+    runs: &[Run<K>],
+    connections: &[Connection<K>],
+    settings: &[u8],
+    times: &[K],
+    ring: usize,
+    counts: usize,
+    sums: usize,
+    befores: usize,
+    floors: usize,
+    arcs: usize,
+    tables: usize,
+    marks: usize,
+    slip_plan: u32,
+    slip_run: u16,
+) -> Result<(), PlanFault>
+    ensures rows { λ r. ⌜ Answers plan-number plan-place (release-call-rows (K·Kind .time) (lengths (length (now (times .entry))) ring counts sums befores floors arcs tables marks) (open-memory (now (plan .entry)) (now (tracks .entry)) (now (runs .entry)) (now (connections .entry)) (now (settings .entry))) (now (times .entry)) (now (plan .entry) .number) «slip_plan» «slip_run») r ⌝ }
+    ensures ready { λ r. ⌜ Cases r (λ _. («slip_run» < length (now (runs .entry))) × Ready (K·Kind .time) (lengths (length (now (times .entry))) ring counts sums befores floors arcs tables marks) (open-memory (now (plan .entry)) (now (tracks .entry)) (now (runs .entry)) (now (connections .entry)) (now (settings .entry))) (hold-memory (K·Kind .time) (open-memory (now (plan .entry)) (now (tracks .entry)) (now (runs .entry)) (now (connections .entry)) (now (settings .entry))) «slip_run» None)) (λ _. Unit {0}) ⌝ }
+{
+    admit(
+        plan,
+        tracks,
+        runs,
+        connections,
+        settings,
+        times,
+        ring,
+        counts,
+        sums,
+        befores,
+        floors,
+        arcs,
+        tables,
+        marks,
+    )?;
+    let v = open_view(plan, tracks, runs, connections, settings);
+    check_release(entered(v), plan.number, slip_plan, slip_run)
 }

@@ -6,9 +6,14 @@ ghost use Rattle.std.specs.Results.{Cases};
 ghost use Rattle.records.specs.Records.{run-at};
 ghost use Rattle.records.specs.Register.{register-of};
 ghost use Rattle.plan.specs.States.{open-memory};
-ghost use Rattle.plan.specs.Steps.{reported, report-memory};
-ghost use Rattle.plan.specs.Calls.{lengths, report-call-rows, Reckons};
+ghost use Rattle.std.specs.declared.option.Option.the-variants.{Some, None};
+ghost use Rattle.plan.specs.Steps.{reported, report-memory, holding, hold-memory};
+ghost use Rattle.plan.specs.Calls.{lengths, report-call-rows, hold-call-rows, release-call-rows, Reckons, released};
 use crate::Open;
+use crate::Slip;
+use crate::Unreleased;
+use crate::admits::admit_hold;
+use crate::admits::admit_release;
 use crate::admits::admit_report;
 use crate::changes::replace_run;
 use kinds::Kind;
@@ -30,6 +35,15 @@ fn with_report<K: Kind>(run: Run<K>, side: u16, at: K) -> Run<K>
     } else {
         run.arrived = Some(at);
     }
+    run
+}
+
+// The run with another hold.
+fn with_hold<K: Kind>(run: Run<K>, hold: Option<K>) -> Run<K>
+    ensures { λ r. ⌜ r ≡ holding run hold ⌝ }
+{
+    let mut run = run;
+    run.hold = hold;
     run
 }
 
@@ -75,7 +89,7 @@ impl Open {
             at,
         )?;
         let r = event as usize / 2;
-        let run = with_report(run_of(runs, r), event % 2, at);
+        let marked = with_report(run_of(runs, r), event % 2, at);
         replace_run(
             self,
             tracks,
@@ -92,8 +106,187 @@ impl Open {
             tables,
             marks,
             r,
-            run,
+            marked,
         )?;
         Ok(())
+    }
+
+    /// Holds a run until a time, and reckons. The slip has to be given back by `release`.
+    pub fn hold<K: Kind>(
+        &self,
+        tracks: &[Track<K>],
+        runs: &mut [Run<K>],
+        connections: &[Connection<K>],
+        settings: &[u8],
+        times: &mut [K],
+        ring: &mut [u16],
+        counts: &mut [u16],
+        sums: &mut [u32],
+        befores: &mut [u16],
+        floors: &mut [K],
+        arcs: &mut [Arc<K>],
+        tables: &mut [K],
+        marks: &mut [u16],
+        run: u16,
+        until: K,
+    ) -> Result<Slip, PlanFault>
+        ensures reckons { λ r. ⌜ Reckons (K·Kind .time) (hold-call-rows (K·Kind .time) (lengths (length (now (times .entry))) (length (now (ring .entry))) (length (now (counts .entry))) (length (now (sums .entry))) (length (now (befores .entry))) (length (now (floors .entry))) (length (now (arcs .entry))) (length (now (tables .entry))) (length (now (marks .entry)))) (open-memory (now (self .entry)) (now (tracks .entry)) (now (runs .entry)) (now (connections .entry)) (now (settings .entry))) (now (times .entry)) run until) (register-of (K·Kind .time) (hold-memory (K·Kind .time) (open-memory (now (self .entry)) (now (tracks .entry)) (now (runs .entry)) (now (connections .entry)) (now (settings .entry))) run (Some until))) (now (times .entry)) (now (times .exit)) (now (ring .entry)) (now (ring .exit)) r ⌝ }
+        ensures runs { λ r. ⌜ Cases r (λ _. now (runs .exit) ≡ set (now (runs .entry)) run (holding (run-at (K·Kind .time) (now (runs .entry)) run) (Some until))) (λ _. now (runs .exit) ≡ now (runs .entry)) ⌝ }
+        ensures slip { λ r. ⌜ Cases r (λ s. (s .plan ≡ now (self .entry) .number) × (s .run ≡ run)) (λ _. Unit {0}) ⌝ }
+    {
+        admit_hold(
+            self,
+            tracks,
+            runs,
+            connections,
+            settings,
+            times,
+            ring.len(),
+            counts.len(),
+            sums.len(),
+            befores.len(),
+            floors.len(),
+            arcs.len(),
+            tables.len(),
+            marks.len(),
+            run,
+            until,
+        )?;
+        let r = run as usize;
+        let marked = with_hold(run_of(runs, r), Some(until));
+        replace_run(
+            self,
+            tracks,
+            runs,
+            connections,
+            settings,
+            times,
+            ring,
+            counts,
+            sums,
+            befores,
+            floors,
+            arcs,
+            tables,
+            marks,
+            r,
+            marked,
+        )?;
+        Ok(Slip {
+            plan: self.number,
+            run,
+        })
+    }
+
+    // Strikes out the hold that a slip speaks of, and reckons.
+    fn strike<K: Kind>(
+        &self,
+        tracks: &[Track<K>],
+        runs: &mut [Run<K>],
+        connections: &[Connection<K>],
+        settings: &[u8],
+        times: &mut [K],
+        ring: &mut [u16],
+        counts: &mut [u16],
+        sums: &mut [u32],
+        befores: &mut [u16],
+        floors: &mut [K],
+        arcs: &mut [Arc<K>],
+        tables: &mut [K],
+        marks: &mut [u16],
+        slip_plan: u32,
+        slip_run: u16,
+    ) -> Result<(), PlanFault>
+        ensures reckons { λ r. ⌜ Reckons (K·Kind .time) (release-call-rows (K·Kind .time) (lengths (length (now (times .entry))) (length (now (ring .entry))) (length (now (counts .entry))) (length (now (sums .entry))) (length (now (befores .entry))) (length (now (floors .entry))) (length (now (arcs .entry))) (length (now (tables .entry))) (length (now (marks .entry)))) (open-memory (now (self .entry)) (now (tracks .entry)) (now (runs .entry)) (now (connections .entry)) (now (settings .entry))) (now (times .entry)) (now (self .entry) .number) «slip_plan» «slip_run») (register-of (K·Kind .time) (hold-memory (K·Kind .time) (open-memory (now (self .entry)) (now (tracks .entry)) (now (runs .entry)) (now (connections .entry)) (now (settings .entry))) «slip_run» None)) (now (times .entry)) (now (times .exit)) (now (ring .entry)) (now (ring .exit)) r ⌝ }
+        ensures runs { λ r. ⌜ Cases r (λ _. now (runs .exit) ≡ set (now (runs .entry)) «slip_run» (holding (run-at (K·Kind .time) (now (runs .entry)) «slip_run») None)) (λ _. now (runs .exit) ≡ now (runs .entry)) ⌝ }
+    {
+        admit_release(
+            self,
+            tracks,
+            runs,
+            connections,
+            settings,
+            times,
+            ring.len(),
+            counts.len(),
+            sums.len(),
+            befores.len(),
+            floors.len(),
+            arcs.len(),
+            tables.len(),
+            marks.len(),
+            slip_plan,
+            slip_run,
+        )?;
+        let r = slip_run as usize;
+        let marked = with_hold(run_of(runs, r), None);
+        replace_run(
+            self,
+            tracks,
+            runs,
+            connections,
+            settings,
+            times,
+            ring,
+            counts,
+            sums,
+            befores,
+            floors,
+            arcs,
+            tables,
+            marks,
+            r,
+            marked,
+        )?;
+        Ok(())
+    }
+
+    /// Takes a slip back, strikes out its hold and reckons. Refused, the slip is handed back.
+    pub fn release<K: Kind>(
+        &self,
+        tracks: &[Track<K>],
+        runs: &mut [Run<K>],
+        connections: &[Connection<K>],
+        settings: &[u8],
+        times: &mut [K],
+        ring: &mut [u16],
+        counts: &mut [u16],
+        sums: &mut [u32],
+        befores: &mut [u16],
+        floors: &mut [K],
+        arcs: &mut [Arc<K>],
+        tables: &mut [K],
+        marks: &mut [u16],
+        slip: Slip,
+    ) -> Result<(), Unreleased>
+        ensures reckons { λ r. ⌜ Reckons (K·Kind .time) (release-call-rows (K·Kind .time) (lengths (length (now (times .entry))) (length (now (ring .entry))) (length (now (counts .entry))) (length (now (sums .entry))) (length (now (befores .entry))) (length (now (floors .entry))) (length (now (arcs .entry))) (length (now (tables .entry))) (length (now (marks .entry)))) (open-memory (now (self .entry)) (now (tracks .entry)) (now (runs .entry)) (now (connections .entry)) (now (settings .entry))) (now (times .entry)) (now (self .entry) .number) (slip .plan) (slip .run)) (register-of (K·Kind .time) (hold-memory (K·Kind .time) (open-memory (now (self .entry)) (now (tracks .entry)) (now (runs .entry)) (now (connections .entry)) (now (settings .entry))) (slip .run) None)) (now (times .entry)) (now (times .exit)) (now (ring .entry)) (now (ring .exit)) (released r) ⌝ }
+        ensures runs { λ r. ⌜ Cases r (λ _. now (runs .exit) ≡ set (now (runs .entry)) (slip .run) (holding (run-at (K·Kind .time) (now (runs .entry)) (slip .run)) None)) (λ _. now (runs .exit) ≡ now (runs .entry)) ⌝ }
+        ensures slip { λ r. ⌜ Cases r (λ _. Unit {0}) (λ u. u .slip ≡ slip) ⌝ }
+    {
+        let slip_plan = slip.plan;
+        let slip_run = slip.run;
+        match self.strike(
+            tracks,
+            runs,
+            connections,
+            settings,
+            times,
+            ring,
+            counts,
+            sums,
+            befores,
+            floors,
+            arcs,
+            tables,
+            marks,
+            slip_plan,
+            slip_run,
+        ) {
+            Ok(()) => {
+                let Slip { plan: _, run: _ } = slip;
+                Ok(())
+            }
+            Err(fault) => Err(Unreleased { slip, fault }),
+        }
     }
 }

@@ -8,3 +8,5 @@ mod states;
 pub use states::Draft;
 pub use states::Open;
 pub use states::Slip;
+pub use states::Unopened;
+pub use states::Unreleased;

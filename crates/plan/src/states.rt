@@ -1,4 +1,5 @@
 //! The two states of a plan, and the slip of a held run.
+use rules::PlanFault;
 
 /// A plan that is being entered: its number, and how many records it has.
 #[derive(Drop)]
@@ -22,4 +23,16 @@ pub struct Open {
 pub struct Slip {
     pub(crate) plan: u32,
     pub(crate) run: u16,
+}
+
+/// A refused opening, with the draft handed back.
+pub struct Unopened {
+    pub draft: Draft,
+    pub fault: PlanFault,
+}
+
+/// A refused release, with the slip handed back.
+pub struct Unreleased {
+    pub slip: Slip,
+    pub fault: PlanFault,
 }
