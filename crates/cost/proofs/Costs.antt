@@ -19,7 +19,7 @@ use Rattle.records.specs.Register.{Register}
 use Rattle.records.specs.Stored.{Limits}
 use Rattle.force.specs.Force.{arrival-of, run-in, track-in, track-under, connection-in}
 use Rattle.force.specs.Constraints.{in-force}
-use Rattle.cost.specs.Cost.{sum-below, late-cost, break-cost, turn-cost, lateness-cost, broken-cost, turned-cost, delay-cost}
+use Rattle.cost.specs.Cost.{sum-below, late-cost, break-cost, turn-cost, turn-costs, lateness-cost, broken-cost, turned-cost, delay-cost}
 use Rattle.cost.proofs.Sums.{sum-same, sum-mono}
 
 module _ {K : Type 0} (t : Time K) where
@@ -55,7 +55,7 @@ module _ {K : Type 0} (t : Time K) where
   settings-alike R order link time orders links =
       let S : Register K = record { tracks = R .tracks; runs = R .runs; connections = R .connections; order = order; link = link } in
       let broken = sum-same (break-cost t R) (break-cost t S) (length (R .connections)) (λ c h. ap (λ (b : ℕ). cond (eqb b 1) (connection-in t R c .penalty) 0) (links c h)) in
-      let turned = sum-same (λ j. sum-below j (turn-cost t R j)) (λ j. sum-below j (turn-cost t S j)) (length (R .runs)) (λ j h.
+      let turned = sum-same (turn-costs t R) (turn-costs t S) (length (R .runs)) (λ j h.
         sum-same (turn-cost t R j) (turn-cost t S j) j (λ i l. turn-same R order j i (λ e. orders i j (record { below = l; inside = h; shared = e })))) in
       omega arith
 

@@ -4,12 +4,12 @@ use mathlib.Core.Path.{_≡_, refl, sym, ap, _∙_}
 use mathlib.Core.Bool.{cond, _&&_}
 use native.Mathlib.Omega.{arith}
 use lib.Dec.{eqb}
-use Rattle.std.proofs.shelf.Tests.{ne-eqb, eq-eqb}
+use Rattle.std.proofs.shelf.Tests.{ne-eqb}
 use Rattle.kinds.specs.Time.{Time}
 use Rattle.records.specs.Places.{Previous}
 use Rattle.records.specs.Register.{Register}
-use Rattle.force.specs.Force.{track-in, track-under}
-use Rattle.cost.specs.Cost.{sum-below, turn-cost}
+use Rattle.force.specs.Force.{track-in}
+use Rattle.cost.specs.Cost.{sum-below, turn-cost, turn-costs}
 use Rattle.cost.proofs.Sums.{sum-still, sum-back}
 
 module _ {K : Type 0} (t : Time K) (R : Register K) (j : ℕ) where
@@ -17,11 +17,7 @@ module _ {K : Type 0} (t : Time K) (R : Register K) (j : ℕ) where
   pub turn-none : (i : ℕ) → (track-in t R i ≡ track-in t R j → ⊥) → turn-cost t R j i ≡ 0
   turn-none i off = let e = ne-eqb (track-in t R i) (track-in t R j) off in rw e refl
 
-  -- one on the same track costs the penalty of a setting that is 1
-  pub turn-is : (i b penalty : ℕ) → track-in t R i ≡ track-in t R j → b ≡ R .order i j → penalty ≡ track-under t R j .penalty → cond (eqb b 1) penalty 0 ≡ turn-cost t R j i
-  turn-is i b penalty on is-b is-p = let e = eq-eqb (track-in t R i) (track-in t R j) on in rw (e, is-b, is-p) refl
-
-  pub turned-start : (p : ℕ) → Previous (track-in t R) (track-in t R j) j p → sum-below j (turn-cost t R j) ≡ sum-below p (turn-cost t R j)
+  pub turned-start : (p : ℕ) → Previous (track-in t R) (track-in t R j) j p → turn-costs t R j ≡ sum-below p (turn-cost t R j)
   turned-start p prev = sum-still (turn-cost t R j) p j (prev .within) (λ k a b. turn-none k (prev .none k a b))
 
   pub turned-back : (p q : ℕ) → 0 < p → Previous (track-in t R) (track-in t R j) (p - 1) q → sum-below p (turn-cost t R j) ≡ turn-cost t R j (p - 1) + sum-below q (turn-cost t R j)

@@ -29,6 +29,10 @@ module _ {K : Type 0} (t : Time K) where
     abbrev pub turn-cost : ℕ → ℕ → ℕ
     turn-cost j i = cond (eqb (track-in t R i) (track-in t R j) && eqb (R .order i j) 1) (track-under t R j .penalty) 0
 
+    -- and with all earlier runs together
+    abbrev pub turn-costs : ℕ → ℕ
+    turn-costs j = sum-below j (turn-cost j)
+
     abbrev pub lateness-cost : (ℕ → K) → ℕ
     lateness-cost time = sum-below (length (R .runs)) (late-cost time)
 
@@ -36,7 +40,7 @@ module _ {K : Type 0} (t : Time K) where
     broken-cost = sum-below (length (R .connections)) break-cost
 
     abbrev pub turned-cost : ℕ
-    turned-cost = sum-below (length (R .runs)) (λ j. sum-below j (turn-cost j))
+    turned-cost = sum-below (length (R .runs)) turn-costs
 
     abbrev pub delay-cost : (ℕ → K) → ℕ
     delay-cost time = lateness-cost time + (broken-cost + turned-cost)

@@ -9,7 +9,7 @@ ghost use Rattle.records.specs.Places.{Laid};
 ghost use Rattle.records.specs.Register.{seen, all-of, register-of};
 ghost use Rattle.records.specs.Stored.{Limits, Stored, Shown};
 ghost use Rattle.force.specs.Force.{track-in};
-ghost use Rattle.cost.specs.Cost.{sum-below, turn-cost, lateness-cost, broken-cost, turned-cost, delay-cost, CostsLeast};
+ghost use Rattle.cost.specs.Cost.{turn-costs, lateness-cost, broken-cost, turned-cost, delay-cost, CostsLeast};
 use kinds::Kind;
 use records::Run;
 use records::View;
@@ -92,7 +92,7 @@ fn turned_of<K: Kind>(
     requires long { ⌜ length (now counts) ≡ 512 ⌝ ∗ ⌜ length (now sums) ≡ 512 ⌝ ∗ ⌜ length (now befores) ≡ 512 ⌝ }
     requires laid { ⌜ Laid (track-in (K·Kind .time) (all-of (K·Kind .time) (seen v))) (length (now (v .runs))) (now counts) (now sums) (now befores) ⌝ }
     requires inside { ⌜ j < length (now (v .runs)) ⌝ }
-    ensures cost { λ n. ⌜ n ≡ sum-below j (turn-cost (K·Kind .time) (all-of (K·Kind .time) (seen (v .entry))) j) ⌝ }
+    ensures cost { λ n. ⌜ n ≡ turn-costs (K·Kind .time) (all-of (K·Kind .time) (seen (v .entry))) j ⌝ }
     ensures few { λ n. ⌜ n ≤ 512000000 ⌝ }
 {
     let track = run_of(v.runs, j).track as usize;
