@@ -44,11 +44,7 @@ fn penalty_if(setting: u8, penalty: u32) -> u64
     ensures cost { λ r. ⌜ r ≡ cond (eqb setting 1) penalty 0 ⌝ }
     ensures few { λ r. ⌜ r ≤ penalty ⌝ }
 {
-    if setting == 1 {
-        penalty as u64
-    } else {
-        0
-    }
+    if setting == 1 { penalty as u64 } else { 0 }
 }
 
 // What the late arrivals cost.
@@ -75,19 +71,16 @@ fn broken_cost<K: Kind>(v: View<K>) -> u64
     let n = v.connections.len();
     let mut sum = 0;
     for c in 0..n {
-        sum += penalty_if(v.settings[4096 + c], connection_of(v.connections, c).penalty);
+        sum += penalty_if(
+            v.settings[4096 + c],
+            connection_of(v.connections, c).penalty,
+        );
     }
     sum
 }
 
 // What the turned orders of run `j` with earlier runs cost.
-fn turned_of<K: Kind>(
-    v: View<K>,
-    counts: &[u16],
-    sums: &[u32],
-    befores: &[u16],
-    j: usize,
-) -> u64
+fn turned_of<K: Kind>(v: View<K>, counts: &[u16], sums: &[u32], befores: &[u16], j: usize) -> u64
     requires limits { ⌜ Limits (K·Kind .time) (all-of (K·Kind .time) (seen v)) ⌝ ∗ ⌜ length (now (v .settings)) ≡ 4608 ⌝ }
     requires long { ⌜ length (now counts) ≡ 512 ⌝ ∗ ⌜ length (now sums) ≡ 512 ⌝ ∗ ⌜ length (now befores) ≡ 512 ⌝ }
     requires laid { ⌜ Laid (track-in (K·Kind .time) (all-of (K·Kind .time) (seen v))) (length (now (v .runs))) (now counts) (now sums) (now befores) ⌝ }

@@ -26,4 +26,5 @@ cost-of-requires g c κs =
 pub returns : need.returns
 returns g c =
     let t = g .K·Kind .time in
-    c .cost-of .ensures ∙ ap (λ (m : Memory (g .K .Denot)). delay-cost t (all-of t m) (at t (c .args .times .now))) (c .entered .ensures)
+    let P : Memory (g .K .Denot) → Type 0 = λ m. c .cost-of .result ≡ delay-cost t (all-of t m) (at t (c .args .times .now)) in
+    subst P (c .entered .ensures) (c .cost-of .ensures)
