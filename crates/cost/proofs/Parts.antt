@@ -2,16 +2,18 @@
 use Prim.Native.Nat.{ℕ, _*_, _≤_, _<_}
 use mathlib.Core.Path.{_≡_, refl, sym, ap, _∙_, subst}
 use mathlib.Core.Bool.{cond, _&&_}
+use mathlib.Core.List.{List}
 use lib.Dec.{eqb}
 use lib.ListN.{length}
 use Rattle.std.proofs.shelf.Tests.{eq-eqb}
 use Rattle.kinds.specs.Time.{Time}
+use Rattle.network.specs.Reckoning.{at}
 use Rattle.records.specs.declared.Track.{Track}
 use Rattle.records.specs.declared.Run.{Run}
 use Rattle.records.specs.declared.Connection.{Connection}
 use Rattle.records.specs.Records.{track-at}
 use Rattle.records.specs.Register.{Register}
-use Rattle.records.specs.Stored.{Limits}
+use Rattle.records.specs.Stored.{Limits, Shown}
 use Rattle.force.specs.Force.{arrival-of, run-in, track-in, track-under, connection-in}
 use Rattle.cost.specs.Cost.{late-cost, break-cost, turn-cost}
 
@@ -24,6 +26,9 @@ module _ {K : Type 0} (t : Time K) (R : Register K) where
       let P : Run K → Type 0 = λ y. (y .weight ≤ 1000) × (t .size (y .arrival) ≤ 1000000) in
       let h = limits .runs .each r inside in
       subst P (sym is-x) (h .0 .1 .1 .0, h .1 .0 .1 .0)
+
+  pub time-small : (times : List K) (n v : ℕ) (y : K) → Shown t times n → y ≡ at t times v → v < n → t .size y ≤ 103300000
+  time-small times n v y shown is-y inside = let P : K → Type 0 = λ z. t .size z ≤ 103300000 in subst P (sym is-y) (shown .each v inside)
 
   pub break-is : (c : ℕ) (x : Connection K) (n : ℕ) → x ≡ connection-in t R c → n ≡ cond (eqb (R .link c) 1) (x .penalty) 0 → n ≡ break-cost t R c
   break-is c x n is-x e = e ∙ ap (λ (z : Connection K). cond (eqb (R .link c) 1) (z .penalty) 0) is-x

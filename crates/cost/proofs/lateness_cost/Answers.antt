@@ -1,12 +1,12 @@
 use Prim.Native.Nat.{ℕ, _+_, _*_, _<_, _≤_}
-use mathlib.Core.Path.{_≡_, refl, sym, ap, _∙_, subst}
+use mathlib.Core.Path.{_≡_, refl, ap, _∙_}
 use native.Mathlib.Omega.{arith}
 use lib.ListN.{length}
 use Rattle.network.specs.Reckoning.{at}
 use Rattle.records.specs.Register.{seen, all-of}
 use Rattle.cost.specs.Cost.{sum-below, late-cost}
 use Rattle.cost.proofs.Sums.{sum-more}
-use Rattle.cost.proofs.Parts.{late-is, run-small}
+use Rattle.cost.proofs.Parts.{late-is, run-small, time-small}
 use Rattle.cost.proofs.lateness_cost.Needs as need
 
 pub late-cost-sum-requires : need.late-cost-sum-requires
@@ -14,8 +14,8 @@ late-cost-sum-requires g c κs =
     let t = g .K·Kind .time in
     let r = c .loop-r .r in
     let x = run-small t (all-of t (seen (c .args .v))) (c .pre .limits .0) r (c .run-of .result) (c .loop-r-test .taken) (c .run-of .ensures) in
-    let P : g .K .Denot → Type 0 = λ y. t .size y ≤ 103300000 in
-    record { small = (x .0, (x .1, subst P (sym (c .time-of .ensures)) (c .pre .shown .each (2 * r + 1) (omega arith)))) }
+    let y = time-small t (all-of t (seen (c .args .v))) (c .args .times .now) (2 * length (c .args .v .runs .now)) _ (c .time-of .result) (c .pre .shown) (c .time-of .ensures) (omega arith) in
+    record { small = (x .0, (x .1, y)) }
 
 pub add-sum : need.add-sum
 add-sum g c = omega (arith, c .loop-r .inv .1, c .late-cost-sum .ensures .few, c .pre .limits .0 .few-runs)
