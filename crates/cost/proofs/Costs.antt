@@ -1,14 +1,14 @@
 -- Least times cost least, and what a delay cost depends on.
 use Prim.Native.Nat.{ℕ, _+_, _*_, _≤_, _<_}
 use mathlib.Core.List.{List}
-use mathlib.Core.Path.{_≡_, refl, sym, ap, _∙_, subst}
-use mathlib.Core.Bool.{Bool, true, false, cond, _&&_}
-use mathlib.Core.Logic.{_⊎_, inl, inr}
+use mathlib.Core.Path.{_≡_, refl, ap, _∙_}
+use mathlib.Core.Bool.{cond, _&&_}
+use mathlib.Core.Logic.{inl, inr}
 use native.Mathlib.Omega.{arith}
 use Rattle.std.proofs.shelf.Bits.{mul-le}
 use lib.Dec.{eqb}
 use lib.ListN.{length}
-use Rattle.std.proofs.shelf.Tests.{cases-eq, ne-eqb, eq-eqb}
+use Rattle.std.proofs.shelf.Tests.{cases-eq, ne-eqb}
 use Rattle.kinds.specs.Time.{Time, Laws}
 use Rattle.network.specs.Network.{Table, Meets, Least}
 use Rattle.records.specs.declared.Track.{Track}
@@ -19,7 +19,7 @@ use Rattle.records.specs.Register.{Register}
 use Rattle.records.specs.Stored.{Limits}
 use Rattle.force.specs.Force.{arrival-of, run-in, track-in, track-under, connection-in}
 use Rattle.force.specs.Constraints.{in-force}
-use Rattle.cost.specs.Cost.{sum-below, late-cost, break-cost, turn-cost, turn-costs, lateness-cost, broken-cost, turned-cost, delay-cost}
+use Rattle.cost.specs.Cost.{late-cost, break-cost, turn-cost, turn-costs, delay-cost}
 use Rattle.cost.proofs.Sums.{sum-same, sum-mono}
 
 module _ {K : Type 0} (t : Time K) where

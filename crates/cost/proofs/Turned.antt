@@ -1,9 +1,6 @@
 -- The cost of turned orders, from one run of a track back to the run before it.
-use Prim.Native.Nat.{ℕ, _+_, _-_, _≤_, _<_}
-use mathlib.Core.Path.{_≡_, refl, sym, ap, _∙_}
-use mathlib.Core.Bool.{cond, _&&_}
-use native.Mathlib.Omega.{arith}
-use lib.Dec.{eqb}
+use Prim.Native.Nat.{ℕ, _+_, _-_, _<_}
+use mathlib.Core.Path.{_≡_, refl}
 use Rattle.std.proofs.shelf.Tests.{ne-eqb}
 use Rattle.kinds.specs.Time.{Time}
 use Rattle.records.specs.Places.{Previous}

@@ -25,14 +25,15 @@ module _ {K : Type 0} (t : Time K) where
     abbrev pub break-cost : ℕ → ℕ
     break-cost c = cond (eqb (R .link c) 1) (connection-in t R c .penalty) 0
 
-    -- run j costs with an earlier run i the penalty of their track if they share one and their order is turned
+    -- the order of run j with an earlier run i costs the penalty of their track if they share one and j is put ahead
     abbrev pub turn-cost : ℕ → ℕ → ℕ
     turn-cost j i = cond (eqb (track-in t R i) (track-in t R j) && eqb (R .order i j) 1) (track-under t R j .penalty) 0
 
-    -- and with all earlier runs together
+    -- the orders of run j with all earlier runs
     abbrev pub turn-costs : ℕ → ℕ
     turn-costs j = sum-below j (turn-cost j)
 
+    -- the three parts
     abbrev pub lateness-cost : (ℕ → K) → ℕ
     lateness-cost time = sum-below (length (R .runs)) (late-cost time)
 

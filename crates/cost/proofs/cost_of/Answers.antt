@@ -1,4 +1,3 @@
-use Prim.Native.Nat.{ℕ, _+_, _*_, _<_, _≤_}
 use native.Mathlib.Omega.{arith}
 use Rattle.cost.proofs.cost_of.Needs as need
 

@@ -1,10 +1,10 @@
-use Prim.Native.Nat.{ℕ, _+_, _*_, _<_, _≤_}
+use Prim.Native.Nat.{ℕ, _*_}
 use mathlib.Core.Path.{_≡_, sym, ap, _∙_, subst}
 use native.Mathlib.Omega.{arith}
 use lib.ListN.{length}
 use Rattle.std.proofs.shelf.Lists.{length-take-le}
 use Rattle.network.specs.Reckoning.{at}
-use Rattle.records.specs.Register.{Memory, seen, all-of}
+use Rattle.records.specs.Register.{Memory, all-of}
 use Rattle.records.specs.Stored.{Limits, Shown}
 use Rattle.cost.specs.Cost.{delay-cost}
 use Rattle.cost.proofs.delay_cost.Needs as need
