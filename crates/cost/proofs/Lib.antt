@@ -1,0 +1,4 @@
+pub mod Sums
+pub mod Parts
+pub mod Turned
+pub mod Costs
