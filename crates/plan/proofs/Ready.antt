@@ -22,10 +22,12 @@ use Rattle.records.specs.Register.{Memory, register-of}
 use Rattle.records.specs.Stored.{Stored, RunStored, SizedIfAny}
 use Rattle.rules.specs.declared.faults.PlanFault.{PlanFault}
 use Rattle.rules.specs.Faults.{plan-number, plan-place}
-use Rattle.rules.specs.Rows.{SoundOpen, Over, Untimely, Given, report-rows, hold-rows, release-rows}
-use Rattle.plan.specs.Steps.{with-runs, reported, holding, report-memory, hold-memory}
+use Rattle.rules.specs.Rows.{SoundOpen, Over, Untimely, Given, report-rows, hold-rows, release-rows, turning-rows, setting-place}
+use Rattle.rules.proofs.Rows.{setting-flag, turning-set}
+use Rattle.rules.specs.declared.switches.Switch.{Switch}
+use Rattle.plan.specs.Steps.{with-runs, reported, holding, report-memory, hold-memory, switch-memory}
 use Rattle.plan.specs.Calls.{Lengths, Listed, Ready}
-use Rattle.plan.proofs.Stays.{stored-run, reported-stored, holding-stored}
+use Rattle.plan.proofs.Stays.{stored-settings, stored-run, reported-stored, holding-stored}
 
 -- two facts of a taken call
 pub both : {X E L : Type 0} (P : Type 0) (r : Result X E) → L → Cases r (λ _. P) (λ _. Unit {0}) → Cases r (λ _. L × P) (λ _. Unit {0})
@@ -94,3 +96,9 @@ module _ {K : Type 0} (t : Time K) where
         let long = sound .listed .runs in
         let inside : r < m .run-count = elim (cases-lt r (length (take (m .run-count) (m .runs)))) [ inl h ↦ omega arith | inr h ↦ absurd (a .1 .0 h) ] in
         (omega arith, changed r (holding (run-at t (m .runs) r) None) inside refl (holding-stored t _ r (run-at t (m .runs) r) None tt (run-good r inside)))
+
+    pub turning-ready : (s : Switch) (setting : ℕ) → Passed (turning-rows t (register-of t m) s setting) → (p : ℕ) → p ≡ setting-place t (register-of t m) s → p < 4608 → (p ≡ setting-place t (register-of t m) s) × (p < length (m .settings)) × Ready t l m (switch-memory t m s setting)
+    turning-ready s setting passed p e h =
+        let small = setting-flag t (register-of t m) s setting (turning-set t (register-of t m) s setting passed) in
+        let long = sound .listed .settings in
+        (e, omega arith, record { listed = listed; records = sound .listed; stored = stored-settings t m (setting-place t (register-of t m) s) setting small (sound .stored) })

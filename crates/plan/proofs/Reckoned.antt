@@ -17,7 +17,11 @@ use Rattle.force.specs.Reckoned.{TimesAfter, RingAfter}
 use Rattle.rules.specs.declared.faults.PlanFault.{PlanFault}
 use Rattle.rules.specs.declared.faults.PlanFault.the-variants as fault
 use Rattle.rules.specs.Faults.{plan-number, plan-place}
-use Rattle.plan.specs.Calls.{ring-rows, RingLeft, Reckons}
+use native.Mathlib.Omega.{arith}
+use Rattle.records.specs.Register.{Memory}
+use Rattle.rules.specs.declared.switches.Switch.{Switch}
+use Rattle.rules.specs.declared.switches.Switch.the-variants as switch
+use Rattle.plan.specs.Calls.{Lengths, ring-rows, RingLeft, Reckons, turning-call-rows}
 
 abbrev pub failed : (X : Type 0) → PlanFault → Result X PlanFault
 failed X f = Err f
@@ -86,3 +90,8 @@ module _ {K : Type 0} (t : Time K) (rows : List Row) (R : Register K) where
     shows = refl;
     names = quiet u ring f h;
   }
+
+-- the rows of turning a setting have numbers below that of a ring
+pub turning-under : {K : Type 0} (t : Time K) (l : Lengths) (m : Memory K) (shown : List K) (s : Switch) (setting : ℕ) → Under 12 (turning-call-rows t l m shown s setting)
+turning-under t l m shown (switch.Order i j) setting = (omega arith, (omega arith, (omega arith, (omega arith, (omega arith, (omega arith, (omega arith, (omega arith, (omega arith, (omega arith, (omega arith, (omega arith, tt))))))))))))
+turning-under t l m shown (switch.Connection c) setting = (omega arith, (omega arith, (omega arith, (omega arith, (omega arith, (omega arith, (omega arith, (omega arith, (omega arith, tt)))))))))

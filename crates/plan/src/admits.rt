@@ -9,11 +9,11 @@ ghost use Rattle.network.specs.Refusals.{Answers};
 ghost use Rattle.records.specs.Register.{register-of};
 ghost use Rattle.records.specs.Stored.{Stored};
 ghost use Rattle.rules.specs.Faults.{plan-number, plan-place};
-ghost use Rattle.rules.specs.Rows.{RecordsListed, SoundOpen, open-rows, report-rows, hold-rows, release-rows, turning-rows};
+ghost use Rattle.rules.specs.Rows.{setting-place, RecordsListed, SoundOpen, open-rows, report-rows, hold-rows, release-rows, turning-rows};
 ghost use Rattle.plan.specs.States.{open-memory};
 ghost use Rattle.std.specs.declared.option.Option.the-variants.{Some, None};
-ghost use Rattle.plan.specs.Steps.{report-memory, hold-memory};
-ghost use Rattle.plan.specs.Calls.{Listed, lengths, length-rows, open-call-rows, report-call-rows, hold-call-rows, release-call-rows, Ready};
+ghost use Rattle.plan.specs.Steps.{report-memory, hold-memory, switch-memory};
+ghost use Rattle.plan.specs.Calls.{Listed, lengths, length-rows, open-call-rows, report-call-rows, hold-call-rows, release-call-rows, turning-call-rows, Ready};
 use crate::Open;
 use crate::changes::open_view;
 use kinds::Kind;
@@ -28,6 +28,7 @@ use rules::check_open;
 use rules::check_release;
 use rules::check_report;
 use rules::check_turning;
+use rules::place_of;
 
 // Whether each memory that a reckoning writes has its listed length.
 fn work_listed(
@@ -92,6 +93,7 @@ fn admit<K: Kind>(
     connections: &[Connection<K>],
     settings: &[u8],
     times: &[K],
+    written: usize,
     ring: usize,
     counts: usize,
     sums: usize,
@@ -101,11 +103,11 @@ fn admit<K: Kind>(
     tables: usize,
     marks: usize,
 ) -> Result<(), PlanFault>
-    ensures rows { λ r. ⌜ Answers plan-number plan-place (open-call-rows (K·Kind .time) (lengths (length (now (times .entry))) ring counts sums befores floors arcs tables marks) (open-memory (now (plan .entry)) (now (tracks .entry)) (now (runs .entry)) (now (connections .entry)) (now (settings .entry))) (now (times .entry))) r ⌝ }
-    ensures sound { λ r. ⌜ Cases r (λ _. Listed (lengths (length (now (times .entry))) ring counts sums befores floors arcs tables marks) × SoundOpen (K·Kind .time) (open-memory (now (plan .entry)) (now (tracks .entry)) (now (runs .entry)) (now (connections .entry)) (now (settings .entry))) (now (times .entry))) (λ _. Unit {0}) ⌝ }
+    ensures rows { λ r. ⌜ Answers plan-number plan-place (open-call-rows (K·Kind .time) (lengths written ring counts sums befores floors arcs tables marks) (open-memory (now (plan .entry)) (now (tracks .entry)) (now (runs .entry)) (now (connections .entry)) (now (settings .entry))) (now (times .entry))) r ⌝ }
+    ensures sound { λ r. ⌜ Cases r (λ _. Listed (lengths written ring counts sums befores floors arcs tables marks) × SoundOpen (K·Kind .time) (open-memory (now (plan .entry)) (now (tracks .entry)) (now (runs .entry)) (now (connections .entry)) (now (settings .entry))) (now (times .entry))) (λ _. Unit {0}) ⌝ }
 {
     check_work(
-        times.len(),
+        written,
         ring,
         counts,
         sums,
@@ -147,6 +149,7 @@ pub(crate) fn admit_report<K: Kind>(
         connections,
         settings,
         times,
+        times.len(),
         ring,
         counts,
         sums,
@@ -189,6 +192,7 @@ pub(crate) fn admit_hold<K: Kind>(
         connections,
         settings,
         times,
+        times.len(),
         ring,
         counts,
         sums,
@@ -231,6 +235,7 @@ pub(crate) fn admit_release<K: Kind>(
         connections,
         settings,
         times,
+        times.len(),
         ring,
         counts,
         sums,
@@ -242,4 +247,50 @@ pub(crate) fn admit_release<K: Kind>(
     )?;
     let v = open_view(plan, tracks, runs, connections, settings);
     check_release(entered(v), plan.number, slip_plan, slip_run)
+}
+
+/// What turning a setting refuses before it reckons; taken, the place of its byte. `written` is the length of the memory that the
+/// times are to be written to.
+pub(crate) fn admit_turning<K: Kind>(
+    plan: &Open,
+    tracks: &[Track<K>],
+    runs: &[Run<K>],
+    connections: &[Connection<K>],
+    settings: &[u8],
+    times: &[K],
+    written: usize,
+    ring: usize,
+    counts: usize,
+    sums: usize,
+    befores: usize,
+    floors: usize,
+    arcs: usize,
+    tables: usize,
+    marks: usize,
+    switch: Switch,
+    setting: u8,
+) -> Result<usize, PlanFault>
+    ensures rows { λ r. ⌜ Answers plan-number plan-place (turning-call-rows (K·Kind .time) (lengths written ring counts sums befores floors arcs tables marks) (open-memory (now (plan .entry)) (now (tracks .entry)) (now (runs .entry)) (now (connections .entry)) (now (settings .entry))) (now (times .entry)) switch setting) r ⌝ }
+    ensures ready { λ r. ⌜ Cases r (λ p. (p ≡ setting-place (K·Kind .time) (register-of (K·Kind .time) (open-memory (now (plan .entry)) (now (tracks .entry)) (now (runs .entry)) (now (connections .entry)) (now (settings .entry)))) switch) × (p < length (now (settings .entry))) × Ready (K·Kind .time) (lengths written ring counts sums befores floors arcs tables marks) (open-memory (now (plan .entry)) (now (tracks .entry)) (now (runs .entry)) (now (connections .entry)) (now (settings .entry))) (switch-memory (K·Kind .time) (open-memory (now (plan .entry)) (now (tracks .entry)) (now (runs .entry)) (now (connections .entry)) (now (settings .entry))) switch setting)) (λ _. Unit {0}) ⌝ }
+{
+    admit(
+        plan,
+        tracks,
+        runs,
+        connections,
+        settings,
+        times,
+        written,
+        ring,
+        counts,
+        sums,
+        befores,
+        floors,
+        arcs,
+        tables,
+        marks,
+    )?;
+    let v = entered(open_view(plan, tracks, runs, connections, settings));
+    check_turning(v, switch, setting)?;
+    Ok(place_of(v, switch))
 }

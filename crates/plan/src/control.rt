@@ -7,15 +7,19 @@ ghost use Rattle.records.specs.Records.{run-at};
 ghost use Rattle.records.specs.Register.{register-of};
 ghost use Rattle.plan.specs.States.{open-memory};
 ghost use Rattle.std.specs.declared.option.Option.the-variants.{Some, None};
-ghost use Rattle.plan.specs.Steps.{reported, report-memory, holding, hold-memory};
-ghost use Rattle.plan.specs.Calls.{lengths, report-call-rows, hold-call-rows, release-call-rows, Reckons, released};
+ghost use Rattle.plan.specs.Steps.{reported, report-memory, holding, hold-memory, switch-memory};
+ghost use Rattle.rules.specs.Rows.{setting-place};
+ghost use Rattle.rules.specs.declared.switches.Switch.the-variants as named;
+ghost use Rattle.plan.specs.Calls.{lengths, report-call-rows, hold-call-rows, release-call-rows, turning-call-rows, Reckons, released};
 use crate::Open;
 use crate::Slip;
 use crate::Unreleased;
 use crate::admits::admit_hold;
 use crate::admits::admit_release;
 use crate::admits::admit_report;
+use crate::admits::admit_turning;
 use crate::changes::replace_run;
+use crate::changes::replace_setting;
 use kinds::Kind;
 use network::Arc;
 use records::Connection;
@@ -24,6 +28,7 @@ use records::Track;
 use records::run_of;
 use rules::PlanFault;
 use rules::PlanFromNetwork;
+use rules::Switch;
 
 // The run with a report of its departure (side 0) or its arrival.
 fn with_report<K: Kind>(run: Run<K>, side: u16, at: K) -> Run<K>
@@ -109,6 +114,151 @@ impl Open {
             marked,
         )?;
         Ok(())
+    }
+
+    // Writes one setting and reckons.
+    fn turn<K: Kind>(
+        &self,
+        tracks: &[Track<K>],
+        runs: &[Run<K>],
+        connections: &[Connection<K>],
+        settings: &mut [u8],
+        times: &mut [K],
+        ring: &mut [u16],
+        counts: &mut [u16],
+        sums: &mut [u32],
+        befores: &mut [u16],
+        floors: &mut [K],
+        arcs: &mut [Arc<K>],
+        tables: &mut [K],
+        marks: &mut [u16],
+        switch: Switch,
+        setting: u8,
+    ) -> Result<(), PlanFault>
+        ensures reckons { λ r. ⌜ Reckons (K·Kind .time) (turning-call-rows (K·Kind .time) (lengths (length (now (times .entry))) (length (now (ring .entry))) (length (now (counts .entry))) (length (now (sums .entry))) (length (now (befores .entry))) (length (now (floors .entry))) (length (now (arcs .entry))) (length (now (tables .entry))) (length (now (marks .entry)))) (open-memory (now (self .entry)) (now (tracks .entry)) (now (runs .entry)) (now (connections .entry)) (now (settings .entry))) (now (times .entry)) switch setting) (register-of (K·Kind .time) (switch-memory (K·Kind .time) (open-memory (now (self .entry)) (now (tracks .entry)) (now (runs .entry)) (now (connections .entry)) (now (settings .entry))) switch setting)) (now (times .entry)) (now (times .exit)) (now (ring .entry)) (now (ring .exit)) r ⌝ }
+        ensures settings { λ r. ⌜ Cases r (λ _. now (settings .exit) ≡ set (now (settings .entry)) (setting-place (K·Kind .time) (register-of (K·Kind .time) (open-memory (now (self .entry)) (now (tracks .entry)) (now (runs .entry)) (now (connections .entry)) (now (settings .entry)))) switch) setting) (λ _. now (settings .exit) ≡ now (settings .entry)) ⌝ }
+    {
+        let place = admit_turning(
+            self,
+            tracks,
+            runs,
+            connections,
+            settings,
+            times,
+            times.len(),
+            ring.len(),
+            counts.len(),
+            sums.len(),
+            befores.len(),
+            floors.len(),
+            arcs.len(),
+            tables.len(),
+            marks.len(),
+            switch,
+            setting,
+        )?;
+        replace_setting(
+            self,
+            tracks,
+            runs,
+            connections,
+            settings,
+            times,
+            ring,
+            counts,
+            sums,
+            befores,
+            floors,
+            arcs,
+            tables,
+            marks,
+            place,
+            setting,
+        )?;
+        Ok(())
+    }
+
+    /// Sets which of two runs on a track goes ahead, and reckons.
+    pub fn order<K: Kind>(
+        &self,
+        tracks: &[Track<K>],
+        runs: &[Run<K>],
+        connections: &[Connection<K>],
+        settings: &mut [u8],
+        times: &mut [K],
+        ring: &mut [u16],
+        counts: &mut [u16],
+        sums: &mut [u32],
+        befores: &mut [u16],
+        floors: &mut [K],
+        arcs: &mut [Arc<K>],
+        tables: &mut [K],
+        marks: &mut [u16],
+        i: u16,
+        j: u16,
+        setting: u8,
+    ) -> Result<(), PlanFault>
+        ensures reckons { λ r. ⌜ Reckons (K·Kind .time) (turning-call-rows (K·Kind .time) (lengths (length (now (times .entry))) (length (now (ring .entry))) (length (now (counts .entry))) (length (now (sums .entry))) (length (now (befores .entry))) (length (now (floors .entry))) (length (now (arcs .entry))) (length (now (tables .entry))) (length (now (marks .entry)))) (open-memory (now (self .entry)) (now (tracks .entry)) (now (runs .entry)) (now (connections .entry)) (now (settings .entry))) (now (times .entry)) (named.Order i j) setting) (register-of (K·Kind .time) (switch-memory (K·Kind .time) (open-memory (now (self .entry)) (now (tracks .entry)) (now (runs .entry)) (now (connections .entry)) (now (settings .entry))) (named.Order i j) setting)) (now (times .entry)) (now (times .exit)) (now (ring .entry)) (now (ring .exit)) r ⌝ }
+        ensures settings { λ r. ⌜ Cases r (λ _. now (settings .exit) ≡ set (now (settings .entry)) (setting-place (K·Kind .time) (register-of (K·Kind .time) (open-memory (now (self .entry)) (now (tracks .entry)) (now (runs .entry)) (now (connections .entry)) (now (settings .entry)))) (named.Order i j)) setting) (λ _. now (settings .exit) ≡ now (settings .entry)) ⌝ }
+    {
+        self.turn(
+            tracks,
+            runs,
+            connections,
+            settings,
+            times,
+            ring,
+            counts,
+            sums,
+            befores,
+            floors,
+            arcs,
+            tables,
+            marks,
+            Switch::Order { i, j },
+            setting,
+        )
+    }
+
+    /// Keeps or breaks a connection, and reckons.
+    pub fn connect<K: Kind>(
+        &self,
+        tracks: &[Track<K>],
+        runs: &[Run<K>],
+        connections: &[Connection<K>],
+        settings: &mut [u8],
+        times: &mut [K],
+        ring: &mut [u16],
+        counts: &mut [u16],
+        sums: &mut [u32],
+        befores: &mut [u16],
+        floors: &mut [K],
+        arcs: &mut [Arc<K>],
+        tables: &mut [K],
+        marks: &mut [u16],
+        c: u16,
+        setting: u8,
+    ) -> Result<(), PlanFault>
+        ensures reckons { λ r. ⌜ Reckons (K·Kind .time) (turning-call-rows (K·Kind .time) (lengths (length (now (times .entry))) (length (now (ring .entry))) (length (now (counts .entry))) (length (now (sums .entry))) (length (now (befores .entry))) (length (now (floors .entry))) (length (now (arcs .entry))) (length (now (tables .entry))) (length (now (marks .entry)))) (open-memory (now (self .entry)) (now (tracks .entry)) (now (runs .entry)) (now (connections .entry)) (now (settings .entry))) (now (times .entry)) (named.Connection c) setting) (register-of (K·Kind .time) (switch-memory (K·Kind .time) (open-memory (now (self .entry)) (now (tracks .entry)) (now (runs .entry)) (now (connections .entry)) (now (settings .entry))) (named.Connection c) setting)) (now (times .entry)) (now (times .exit)) (now (ring .entry)) (now (ring .exit)) r ⌝ }
+        ensures settings { λ r. ⌜ Cases r (λ _. now (settings .exit) ≡ set (now (settings .entry)) (setting-place (K·Kind .time) (register-of (K·Kind .time) (open-memory (now (self .entry)) (now (tracks .entry)) (now (runs .entry)) (now (connections .entry)) (now (settings .entry)))) (named.Connection c)) setting) (λ _. now (settings .exit) ≡ now (settings .entry)) ⌝ }
+    {
+        self.turn(
+            tracks,
+            runs,
+            connections,
+            settings,
+            times,
+            ring,
+            counts,
+            sums,
+            befores,
+            floors,
+            arcs,
+            tables,
+            marks,
+            Switch::Connection { c },
+            setting,
+        )
     }
 
     /// Holds a run until a time, and reckons. The slip has to be given back by `release`.

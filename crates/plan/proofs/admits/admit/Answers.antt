@@ -15,7 +15,7 @@ use Rattle.plan.proofs.admits.admit.Needs as need
 pub returns-in-Break-check-work : need.returns-in-Break-check-work
 returns-in-Break-check-work g c =
     let a = c .args in
-    let l = lengths (length (a .times .now)) (a .ring) (a .counts) (a .sums) (a .befores) (a .floors) (a .arcs) (a .tables) (a .marks) in
+    let l = lengths (a .written) (a .ring) (a .counts) (a .sums) (a .befores) (a .floors) (a .arcs) (a .tables) (a .marks) in
     let m = open-memory (a .plan .now) (a .tracks .now) (a .runs .now) (a .connections .now) (a .settings .now) in
     let p = err-from-errBy (c .from-residual .result) (c .from-residual .ensures .1) in
     rw (p .1, p .2) (record { rows = first-front (length-rows l) (open-rows (g .K·Kind .time) m (a .times .now)) _ _ (c .in-Break-check-work .ensures tt .rows); sound = tt })
@@ -24,7 +24,7 @@ pub returns : need.returns
 returns g c =
     let t = g .K·Kind .time in
     let a = c .args in
-    let l = lengths (length (a .times .now)) (a .ring) (a .counts) (a .sums) (a .befores) (a .floors) (a .arcs) (a .tables) (a .marks) in
+    let l = lengths (a .written) (a .ring) (a .counts) (a .sums) (a .befores) (a .floors) (a .arcs) (a .tables) (a .marks) in
     let m = open-memory (a .plan .now) (a .tracks .now) (a .runs .now) (a .connections .now) (a .settings .now) in
     let P : Memory (g .K .Denot) → Type 0 = λ x. Answers plan-number plan-place (open-rows t x (a .times .now)) (c .check-open .result) in
     let Q : Memory (g .K .Denot) → Type 0 = λ x. Cases (c .check-open .result) (λ _. SoundOpen t x (a .times .now)) (λ _. Unit {0}) in
