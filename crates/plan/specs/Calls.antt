@@ -21,7 +21,7 @@ use Rattle.rules.specs.Faults.{plan-number, plan-place}
 use Rattle.plan.specs.declared.states.Open.{Open}
 use Rattle.plan.specs.declared.states.Unopened.{Unopened}
 use Rattle.plan.specs.declared.states.Unreleased.{Unreleased}
-use Rattle.rules.specs.Rows.{RecordsListed, open-rows, report-rows, hold-rows, release-rows, turning-rows}
+use Rattle.rules.specs.Rows.{RecordsListed, draft-rows, open-rows, report-rows, hold-rows, release-rows, turning-rows}
 
 -- the answer of a release or an opening, without what is handed back
 abbrev pub released : Result (Unit {0}) Unreleased → Result (Unit {0}) PlanFault
@@ -118,6 +118,10 @@ module _ {K : Type 0} (t : Time K) (l : Lengths) (m : Memory K) (shown : List K)
 
   abbrev pub turning-call-rows : Switch → ℕ → List Row
   turning-call-rows s setting = open-call-rows ++ turning-rows t (register-of t m) s setting
+
+-- opening a draft
+abbrev pub opening-rows : {K : Type 0} → Time K → Lengths → Memory K → List Row
+opening-rows t l m = length-rows l ++ draft-rows t m
 
 -- What is known once no row before the ring applies, where m is the memory as it is and m′ as the call is to leave it.
 pub record Ready {K : Type 0} (t : Time K) (l : Lengths) (m m′ : Memory K) : Type 0 where

@@ -3,6 +3,7 @@
 mod admits;
 mod changes;
 mod control;
+mod opening;
 mod states;
 
 pub use states::Draft;
