@@ -32,6 +32,11 @@ abbrev pub opened : Result Open Unopened → Result Open PlanFault
 opened (Ok x) = Ok x
 opened (Err u) = Err (u .fault)
 
+-- whether a call was taken, whatever it answers
+abbrev pub done : {X E : Type 0} → Result X E → Result (Unit {0}) E
+done (Ok x) = Ok tt
+done (Err e) = Err e
+
 -- How long the memories are that a reckoning writes: the times shown, the ring, and working memory.
 pub record Lengths : Type 0 where
   pub times : ℕ

@@ -5,6 +5,7 @@ mod changes;
 mod control;
 mod opening;
 mod states;
+mod trials;
 
 pub use states::Draft;
 pub use states::Open;

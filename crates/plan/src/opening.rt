@@ -76,7 +76,18 @@ fn start<K: Kind>(
     )?;
     let v = drafted_view(draft, tracks, runs, connections, settings);
     check_draft(v)?;
-    reckon_plan(v, counts, sums, befores, floors, arcs, tables, marks, times, ring)?;
+    reckon_plan(
+        v,
+        counts,
+        sums,
+        befores,
+        floors,
+        arcs,
+        tables,
+        marks,
+        times,
+        ring,
+    )?;
     Ok(())
 }
 
@@ -102,7 +113,20 @@ impl Draft {
         ensures plan { λ r. ⌜ Cases r (λ o. (o .number ≡ self .number) × (o .tracks ≡ self .tracks) × (o .runs ≡ self .runs) × (o .connections ≡ self .connections)) (λ u. u .draft ≡ self) ⌝ }
     {
         match start(
-            &self, tracks, runs, connections, settings, times, ring, counts, sums, befores, floors, arcs, tables, marks,
+            &self,
+            tracks,
+            runs,
+            connections,
+            settings,
+            times,
+            ring,
+            counts,
+            sums,
+            befores,
+            floors,
+            arcs,
+            tables,
+            marks,
         ) {
             Ok(()) => {
                 let Draft {
