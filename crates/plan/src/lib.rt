@@ -4,6 +4,7 @@ mod admits;
 mod changes;
 mod control;
 mod opening;
+mod questions;
 mod states;
 mod trials;
 
