@@ -1,7 +1,6 @@
 //! The calls on a draft.
 ghost use Prim.Native.Nat.{ℕ, _+_, _<_, _≤_};
 ghost use mathlib.Core.Path.{_≡_};
-ghost use mathlib.Core.List.{_++_};
 ghost use lib.ListN.{length, set};
 ghost use Rattle.std.specs.Results.{Cases};
 ghost use Rattle.network.specs.Refusals.{Answers};

@@ -1,8 +1,6 @@
 //! What the calls on a draft refuse.
-ghost use Prim.Native.Nat.{ℕ, _<_, _≤_};
+ghost use Prim.Native.Nat.{_<_, _≤_};
 ghost use mathlib.Core.Path.{_≡_};
-ghost use mathlib.Core.List.{_++_};
-ghost use lib.ListN.{length};
 ghost use Rattle.std.specs.Results.{Cases};
 ghost use Rattle.network.specs.Refusals.{Answers, Passed};
 ghost use Rattle.records.specs.Register.{seen, register-of};

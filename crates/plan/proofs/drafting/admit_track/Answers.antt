@@ -1,4 +1,4 @@
-use mathlib.Core.Path.{_≡_, refl, sym, ap, _∙_, subst}
+use mathlib.Core.Path.{_≡_, ap, _∙_, subst}
 use Rattle.std.proofs.shelf.Results.{err-from-errBy}
 use Rattle.network.specs.Refusals.{Answers, First, Passed}
 use Rattle.network.proofs.Refusals.{first-front, answers-more}

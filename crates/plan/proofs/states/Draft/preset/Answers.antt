@@ -1,4 +1,4 @@
-use mathlib.Core.Path.{_≡_, refl}
+use mathlib.Core.Path.{refl}
 use Rattle.std.proofs.shelf.Results.{err-from-errBy}
 use Rattle.plan.proofs.states.Draft.preset.Needs as need
 

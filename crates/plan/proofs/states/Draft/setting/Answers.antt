@@ -1,4 +1,3 @@
-use mathlib.Core.Path.{_≡_, refl}
 use Rattle.std.proofs.shelf.Results.{err-from-errBy}
 use Rattle.plan.proofs.states.Draft.setting.Needs as need
 
