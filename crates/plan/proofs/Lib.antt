@@ -1,3 +1,4 @@
 pub mod Stays
 pub mod Reckoned
 pub mod Ready
+pub mod Entering

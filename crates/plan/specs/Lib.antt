@@ -1,3 +1,4 @@
 pub mod Steps
 pub mod States
 pub mod Calls
+pub mod Drafting

@@ -4,7 +4,7 @@ ghost use mathlib.Core.Path.{_≡_};
 ghost use mathlib.Core.List.{_++_};
 ghost use lib.ListN.{length};
 ghost use Rattle.std.specs.Results.{Cases};
-ghost use Rattle.records.specs.Register.{seen, register-of};
+ghost use Rattle.records.specs.Register.{register-of};
 ghost use Rattle.rules.specs.Rows.{draft-rows};
 ghost use Rattle.plan.specs.States.{draft-memory};
 ghost use Rattle.plan.specs.Calls.{lengths, opening-rows, Reckons, opened};
@@ -12,37 +12,16 @@ use crate::Draft;
 use crate::Open;
 use crate::Unopened;
 use crate::admits::check_work;
+use crate::drafting::draft_view;
 use force::reckon_plan;
 use kinds::Kind;
 use network::Arc;
 use records::Connection;
 use records::Run;
 use records::Track;
-use records::View;
 use rules::PlanFault;
 use rules::PlanFromNetwork;
 use rules::check_draft;
-
-// The memories of a draft, to be read.
-fn drafted_view<'t, 'r, 'c, 's, K: Kind>(
-    draft: &Draft,
-    tracks: &'t [Track<K>],
-    runs: &'r [Run<K>],
-    connections: &'c [Connection<K>],
-    settings: &'s [u8],
-) -> View<'t, 'r, 'c, 's, K>
-    ensures { λ r. ⌜ seen r ≡ draft-memory (now (draft .entry)) (now (tracks .entry)) (now (runs .entry)) (now (connections .entry)) (now (settings .entry)) ⌝ }
-{
-    View {
-        tracks,
-        runs,
-        connections,
-        settings,
-        track_count: draft.tracks as usize,
-        run_count: draft.runs as usize,
-        connection_count: draft.connections as usize,
-    }
-}
 
 // Reckons what a draft puts in force.
 fn start<K: Kind>(
@@ -74,7 +53,7 @@ fn start<K: Kind>(
         tables.len(),
         marks.len(),
     )?;
-    let v = drafted_view(draft, tracks, runs, connections, settings);
+    let v = draft_view(draft, tracks, runs, connections, settings);
     check_draft(v)?;
     reckon_plan(
         v,

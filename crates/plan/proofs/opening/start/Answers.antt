@@ -34,7 +34,7 @@ returns-in-Break-check-draft g c =
     let p = err-from-errBy (c .from-residual-in-Break-check-draft .result) (c .from-residual-in-Break-check-draft .ensures .1) in
     let f = c .in-Break-check-draft .field-0 .0 in
     let P : Memory (g .K .Denot) → Type 0 = λ x. First (draft-rows t x) (plan-number f) (plan-place f) in
-    rw (p .1, p .2) (refused t (opening-rows t l m) (register-of t m) (Unit {0}) (omega arith, (omega arith, (omega arith, (omega arith, tt)))) (a .times .now) (a .ring .now) _ (first-more (length-rows l) (draft-rows t m) _ _ (c .in-Continue-check-work .ensures tt .rows) (subst P (c .drafted-view-v .ensures) (c .in-Break-check-draft .ensures tt .rows))))
+    rw (p .1, p .2) (refused t (opening-rows t l m) (register-of t m) (Unit {0}) (omega arith, (omega arith, (omega arith, (omega arith, tt)))) (a .times .now) (a .ring .now) _ (first-more (length-rows l) (draft-rows t m) _ _ (c .in-Continue-check-work .ensures tt .rows) (subst P (c .draft-view-v .ensures) (c .in-Break-check-draft .ensures tt .rows))))
 
 pub reckon-plan-requires : need.reckon-plan-requires
 reckon-plan-requires g c κs =
@@ -60,8 +60,8 @@ returns-in-Break-reckon-plan g c =
     let O : Memory (g .K .Denot) → Type 0 = λ x. Passed (draft-rows t x) in
     let P : Memory (g .K .Denot) → Type 0 = λ x. TimesAfter t (register-of t x) (a .times .now) (c .reckon-plan .last .times) (Err f) in
     let Q : Memory (g .K .Denot) → Type 0 = λ x. RingAfter t (register-of t x) (a .ring .now) (c .reckon-plan .last .ring) (Err f) in
-    let passed = passed-more (length-rows l) (draft-rows t m) (c .in-Continue-check-work .ensures tt .rows) (subst O (c .drafted-view-v .ensures) (c .in-Continue-check-draft .ensures tt .rows)) in
-    rw (p .1, p .2) (reckoned t (opening-rows t l m) (register-of t m) passed (a .times .now) (c .reckon-plan .last .times) (a .ring .now) (c .reckon-plan .last .ring) (Err f) (subst P (c .drafted-view-v .ensures) (told .times)) (subst Q (c .drafted-view-v .ensures) (told .ring)))
+    let passed = passed-more (length-rows l) (draft-rows t m) (c .in-Continue-check-work .ensures tt .rows) (subst O (c .draft-view-v .ensures) (c .in-Continue-check-draft .ensures tt .rows)) in
+    rw (p .1, p .2) (reckoned t (opening-rows t l m) (register-of t m) passed (a .times .now) (c .reckon-plan .last .times) (a .ring .now) (c .reckon-plan .last .ring) (Err f) (subst P (c .draft-view-v .ensures) (told .times)) (subst Q (c .draft-view-v .ensures) (told .ring)))
 
 pub returns : need.returns
 returns g c =
@@ -73,5 +73,5 @@ returns g c =
     let O : Memory (g .K .Denot) → Type 0 = λ x. Passed (draft-rows t x) in
     let P : Memory (g .K .Denot) → Type 0 = λ x. TimesAfter t (register-of t x) (a .times .now) (c .reckon-plan .last .times) (Ok tt) in
     let Q : Memory (g .K .Denot) → Type 0 = λ x. RingAfter t (register-of t x) (a .ring .now) (c .reckon-plan .last .ring) (Ok tt) in
-    let passed = passed-more (length-rows l) (draft-rows t m) (c .in-Continue-check-work .ensures tt .rows) (subst O (c .drafted-view-v .ensures) (c .in-Continue-check-draft .ensures tt .rows)) in
-    reckoned t (opening-rows t l m) (register-of t m) passed (a .times .now) (c .reckon-plan .last .times) (a .ring .now) (c .reckon-plan .last .ring) (Ok tt) (subst P (c .drafted-view-v .ensures) (told .times)) (subst Q (c .drafted-view-v .ensures) (told .ring))
+    let passed = passed-more (length-rows l) (draft-rows t m) (c .in-Continue-check-work .ensures tt .rows) (subst O (c .draft-view-v .ensures) (c .in-Continue-check-draft .ensures tt .rows)) in
+    reckoned t (opening-rows t l m) (register-of t m) passed (a .times .now) (c .reckon-plan .last .times) (a .ring .now) (c .reckon-plan .last .ring) (Ok tt) (subst P (c .draft-view-v .ensures) (told .times)) (subst Q (c .draft-view-v .ensures) (told .ring))
