@@ -1,0 +1,4 @@
+pub mod Sames
+pub mod Kept
+pub mod Forces
+pub mod Agrees
