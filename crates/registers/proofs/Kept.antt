@@ -21,7 +21,8 @@ use Rattle.rules.specs.declared.switches.Switch.{Switch}
 use Rattle.rules.specs.declared.switches.Switch.the-variants as switch
 use Rattle.plan.specs.Steps.{unused, reported, holding}
 use Rattle.registers.specs.Steps.{Same, enter-track, enter-run, enter-connection, set-switch, with-run, report, hold}
-use Rattle.registers.proofs.Sames.{with-settings, at-same}
+use Rattle.registers.specs.Kept.{StepsKept, SameKept}
+use Rattle.registers.proofs.Sames.{same-refl, same-sym, same-trans, at-same}
 
 module _ {K : Type 0} (t : Time K) where
   -- one more run leaves the track of each earlier one
@@ -135,3 +136,16 @@ module _ {K : Type 0} (t : Time K) where
     hold-kept r until =
         let P : List (Run K) → Type 0 = λ xs. Same t (hold t R r until) (with-run S r (holding (run-at t xs r) until)) in
         subst P (h .runs) (with-run-kept r (holding (run-at t (R .runs) r) until) refl)
+
+    pub steps-kept : StepsKept t R S
+    steps-kept = record {
+      track = enter-track-kept;
+      run = enter-run-kept;
+      connection = enter-connection-kept;
+      switch = set-switch-kept;
+      report = report-kept;
+      hold = hold-kept;
+    }
+
+  pub same-kept : SameKept t
+  same-kept = record { reflexive = same-refl t; symmetric = same-sym t; transitive = same-trans t; steps = steps-kept }
