@@ -1,34 +1,34 @@
 -- Each step on a memory is the step on the register that the memory stands for.
-use Prim.Native.Nat.{ℕ, suc, _+_, _-_, _≤_, _<_, _/_, _%_}
+use Prim.Native.Nat.{ℕ, _+_, _-_, _≤_, _<_, _/_, _%_}
 use mathlib.Core.Path.{_≡_, refl, sym, ap, _∙_, subst}
 use mathlib.Core.Bool.{cond, _&&_}
 use mathlib.Core.List.{List, [], _∷_, _++_}
-use mathlib.Core.Logic.{_⊎_, inl, inr}
+use mathlib.Core.Logic.{inl, inr}
 use native.Mathlib.Omega.{arith}
 use lib.Dec.{eqb}
-use lib.ListN.{length, getD, set, take, drop, replicate}
+use lib.ListN.{length, getD, set, take, replicate}
 use lib.Seq.{take-set-lt}
 use Rattle.std.specs.declared.option.Option.{Option}
 use Rattle.std.proofs.shelf.Lists.{getD-set-same, getD-set-other, getD-take, length-take-le, take-more-set, getD-append-left, getD-append-right, getD-push, getD-drop, getD-replicate, length-replicate, length-push}
-use Rattle.std.proofs.shelf.Tests.{cases-eq, cases-lt, eq-eqb, ne-eqb, and-left, and-right, cond-true, cond-false}
+use Rattle.std.proofs.shelf.Tests.{cases-eq, eq-eqb, ne-eqb, and-left, and-right, cond-true, cond-false}
 use Rattle.kinds.specs.Time.{Time}
 use Rattle.network.specs.Refusals.{Passed}
 use Rattle.records.specs.declared.Track.{Track}
 use Rattle.records.specs.declared.Run.{Run}
 use Rattle.records.specs.declared.Connection.{Connection}
-use Rattle.records.specs.Records.{run-at, track-of}
+use Rattle.records.specs.Records.{track-of}
 use Rattle.records.specs.Places.{count, earlier, total, place, Ordered}
-use Rattle.records.specs.Register.{Register, Memory, register-of}
+use Rattle.records.specs.Register.{Memory, register-of}
 use Rattle.records.specs.Stored.{Stored}
 use Rattle.records.proofs.Counts.{count-below, place-below, place-kept, count-kept, total-kept, one-written}
 use Rattle.rules.specs.declared.switches.Switch.{Switch}
 use Rattle.rules.specs.declared.switches.Switch.the-variants as switch
-use Rattle.rules.specs.Rows.{RecordsListed, switch-rows}
+use Rattle.rules.specs.Rows.{RecordsListed, orders-with, switch-rows}
 use Rattle.rules.proofs.Rows.{order-passed, link-passed}
 use Rattle.plan.specs.Steps.{with-runs, unused, reported, holding, report-memory, hold-memory, switch-memory}
-use Rattle.registers.specs.Steps.{Same, enter-track, enter-run, enter-connection, set-switch, with-run, report, hold}
+use Rattle.registers.specs.Steps.{Same, empty, enter-track, enter-run, enter-connection, set-switch, with-run, report, hold}
 use Rattle.registers.specs.Memories.{track-memory, connection-memory, cleared, orders-entered, orders-added, run-memory, StepsOf}
-use Rattle.registers.proofs.Kept.{track-before, ordered-before, track-still, ordered-still}
+use Rattle.registers.proofs.Kept.{track-before, ordered-before, track-still}
 
 -- reading among cleared bytes
 module _ (xs : List ℕ) (a k : ℕ) (room : a + k ≤ length xs) where
@@ -49,6 +49,19 @@ module _ (xs : List ℕ) (a k : ℕ) (room : a + k ≤ length xs) where
       getD-append-right (take a xs) _ a p 0 long-front (omega arith) ∙ getD-append-right (replicate k 0) _ k (p - a) 0 (length-replicate k 0) (omega arith) ∙ getD-drop (a + k) xs (p - a - k) 0 ∙ ap (λ (q : ℕ). getD xs q 0) e
 
 module _ {K : Type 0} (t : Time K) (m : Memory K) where
+  -- nothing is entered
+  pub empty-agrees : m .track-count ≡ 0 → m .run-count ≡ 0 → m .connection-count ≡ 0 → Same t (register-of t m) empty
+  empty-agrees tracks runs connections =
+      let no-run : take (m .run-count) (m .runs) ≡ [] = ap (λ n. take n (m .runs)) runs in
+      let no-connection : take (m .connection-count) (m .connections) ≡ [] = ap (λ n. take n (m .connections)) connections in
+      record {
+        tracks = ap (λ n. take n (m .tracks)) tracks;
+        runs = no-run;
+        connections = no-connection;
+        orders = λ i j o. (let e = ap length no-run in let l = o .inside in absurd (omega arith));
+        links = λ c l. (let e = ap length no-connection in absurd (omega arith));
+      }
+
   -- another run on the same track
   pub run-agrees : (r : ℕ) (x : Run K) → r < m .run-count → x .track ≡ track-of t (take (m .run-count) (m .runs)) r → Same t (register-of t (with-runs m (set (m .runs) r x))) (with-run (register-of t m) r x)
   run-agrees r x inside e =
@@ -78,6 +91,10 @@ module _ {K : Type 0} (t : Time K) (m : Memory K) where
 
     long-connections : length (take (m .connection-count) (m .connections)) ≡ m .connection-count
     long-connections = length-take-le (m .connection-count) (m .connections) (omega (arith, stored .few-connections, listed .connections))
+
+    -- what a run's rows count as orders
+    pub orders-counted : (x : ℕ) → orders-with t (register-of t m) x ≡ orders-entered t m + orders-added t m x
+    orders-counted x = ap (λ (n : ℕ). total (track-of t (take (m .run-count) (m .runs))) n + count (track-of t (take (m .run-count) (m .runs))) x n) long-runs
 
     -- the byte of an order lies before those of the connections
     order-low : (i j : ℕ) → Ordered (track-of t (take (m .run-count) (m .runs))) (length (take (m .run-count) (m .runs))) i j → place (track-of t (take (m .run-count) (m .runs))) i j < 4096
@@ -183,18 +200,18 @@ module _ {K : Type 0} (t : Time K) (m : Memory K) where
           let bytes : List ℕ = cleared (m .settings) (orders-entered t m) (orders-added t m (x .track)) in
           let O : List (Run K) → Type 0 = λ rs. (i j : ℕ) → Ordered (track-of t rs) (length rs) i j → getD bytes (place (track-of t rs) i j) 0 ≡ cond (eqb j (length (take n (m .runs)))) 0 (getD (m .settings) (place (track-of t (take n (m .runs))) i j) 0) in
           let orders-now : O (take n (m .runs) ++ unused x ∷ []) = λ i j o.
-              (let longer = length-push (take n (m .runs)) (unused x) in
-              let b = o .below in
-              let l = o .inside in
-              elim (cases-eq j n) [
-                | inl e ↦
-                    (let g : ℕ → ℕ = track-of t (take n (m .runs) ++ unused x ∷ []) in
-                    let P : ℕ → Type 0 = λ k. getD bytes (place g i k) 0 ≡ 0 in
-                    subst P (sym e) (order-new i (omega arith) (o .shared ∙ ap g e)) ∙ sym (cond-true (eqb j (length (take n (m .runs)))) 0 _ (eq-eqb _ _ (e ∙ sym long))))
-                | inr ne ↦
-                    (let q = ordered-before t (take n (m .runs)) (unused x) i j (omega arith) o in
-                    order-was i j b (omega arith) (q .shared) ∙ sym (cond-false (eqb j (length (take n (m .runs)))) 0 _ (ne-eqb _ _ (λ e. ne (e ∙ long)))))
-              ]) in
+          (let longer = length-push (take n (m .runs)) (unused x) in
+          let b = o .below in
+          let l = o .inside in
+          elim (cases-eq j n) [
+            | inl e ↦
+                (let g : ℕ → ℕ = track-of t (take n (m .runs) ++ unused x ∷ []) in
+                let P : ℕ → Type 0 = λ k. getD bytes (place g i k) 0 ≡ 0 in
+                subst P (sym e) (order-new i (omega arith) (o .shared ∙ ap g e)) ∙ sym (cond-true (eqb j (length (take n (m .runs)))) 0 _ (eq-eqb _ _ (e ∙ sym long))))
+            | inr ne ↦
+                (let q = ordered-before t (take n (m .runs)) (unused x) i j (omega arith) o in
+                order-was i j b (omega arith) (q .shared) ∙ sym (cond-false (eqb j (length (take n (m .runs)))) 0 _ (ne-eqb _ _ (λ e. ne (e ∙ long)))))
+          ]) in
           record {
             tracks = refl;
             runs = runs-now;
@@ -205,6 +222,7 @@ module _ {K : Type 0} (t : Time K) (m : Memory K) where
 
     pub steps-of : StepsOf t m
     steps-of = record {
+      none = empty-agrees;
       track = track-agrees;
       run = run-entered-agrees;
       connection = connection-agrees;

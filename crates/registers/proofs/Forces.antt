@@ -1,7 +1,6 @@
 -- Registers that say the same put the same in force.
 use Prim.Native.Nat.{ℕ, _≤_, _<_}
-use mathlib.Core.Path.{_≡_, refl, sym, ap, _∙_, subst}
-use mathlib.Core.List.{List}
+use mathlib.Core.Path.{_≡_, refl, sym, _∙_, subst}
 use mathlib.Core.Logic.{inl, inr}
 use lib.ListN.{length}
 use Rattle.kinds.specs.Time.{Time}
@@ -16,7 +15,7 @@ use Rattle.force.proofs.Alike.{Alike, table-there, meets-there, least-there, no
 use Rattle.cost.proofs.Costs.{cost-alike}
 use Rattle.registers.specs.Steps.{Same}
 use Rattle.registers.specs.Force.{ForceShared}
-use Rattle.registers.proofs.Sames.{with-settings, at-same, same-sym}
+use Rattle.registers.proofs.Sames.{with-settings, at-same}
 
 module _ {K : Type 0} (t : Time K) where
   -- settings that agree where there is an order or a connection

@@ -4,3 +4,4 @@ pub mod Forces
 pub mod Agrees
 pub mod Matches
 pub mod Rows
+pub mod Reckons

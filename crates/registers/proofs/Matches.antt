@@ -6,6 +6,7 @@ use mathlib.Core.Logic.{inl, inr}
 use Rattle.std.specs.declared.result.Result.{Result}
 use Rattle.std.specs.declared.result.Result.the-variants.{Ok, Err}
 use Rattle.network.specs.Refusals.{Row, Passed, First, Answers}
+use Rattle.rules.proofs.Rows.{passed-back}
 use Rattle.registers.specs.Rows.{Answered}
 
 -- two rows tell the same, and one applies where the other does
@@ -60,3 +61,16 @@ matching-answered xs ys m = record { passed = matching-passed xs ys m; first = m
 pub answered : {X E : Type 0} (number place : E → ℕ) (xs ys : List Row) (r : Result X E) → Answered xs ys → Answers number place xs r → Answers number place ys r
 answered number place xs ys (Ok x) a h = a .passed h
 answered number place xs ys (Err f) a h = a .first (number f) (place f) h
+
+pub matching-answers : {X E : Type 0} (number place : E → ℕ) (xs ys : List Row) (r : Result X E) → Matching xs ys → Answers number place xs r → Answers number place ys r
+matching-answers number place xs ys r m h = answered number place xs ys r (matching-answered xs ys m) h
+
+-- where no row in front applies the answer is that of the rows behind
+first-behind : (xs ys : List Row) (n p : ℕ) → Passed xs → First (xs ++ ys) n p → First ys n p
+first-behind [] ys n p off f = f
+first-behind (x ∷ xs) ys n p off (inl f) = absurd (off .0 (f .0))
+first-behind (x ∷ xs) ys n p off (inr f) = first-behind xs ys n p (off .1) (f .1)
+
+pub answers-behind : {X E : Type 0} (number place : E → ℕ) (xs ys : List Row) (r : Result X E) → Passed xs → Answers number place (xs ++ ys) r → Answers number place ys r
+answers-behind number place xs ys (Ok x) off h = passed-back xs ys h
+answers-behind number place xs ys (Err f) off h = first-behind xs ys (number f) (place f) off h

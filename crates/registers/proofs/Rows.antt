@@ -1,9 +1,9 @@
 -- The rows on registers that say the same match.
-use Prim.Native.Nat.{ℕ, _<_}
+use Prim.Native.Nat.{ℕ}
 use mathlib.Core.Path.{_≡_, refl, sym, _∙_}
-use mathlib.Core.List.{List, [], _∷_, _++_}
+use mathlib.Core.List.{List}
 use Rattle.kinds.specs.Time.{Time}
-use Rattle.network.specs.Refusals.{Row, row, Passed}
+use Rattle.network.specs.Refusals.{Row, Passed}
 use Rattle.records.specs.declared.Track.{Track}
 use Rattle.records.specs.declared.Run.{Run}
 use Rattle.records.specs.declared.Connection.{Connection}
@@ -11,13 +11,13 @@ use Rattle.records.specs.Register.{Register}
 use Rattle.rules.specs.declared.switches.Switch.{Switch}
 use Rattle.rules.specs.declared.switches.Switch.the-variants as switch
 use Rattle.rules.specs.Rows.{TooLate, setting-of, track-rows, run-rows, connection-rows, switch-rows, setting-rows, turning-rows, event-rows, report-rows, hold-rows, release-rows}
-use Rattle.rules.proofs.Rows.{order-passed, link-passed, setting-named}
+use Rattle.rules.proofs.Rows.{order-passed, link-passed}
 use Rattle.plan.specs.Calls.{ring-rows}
 use Rattle.registers.specs.Steps.{Same}
 use Rattle.registers.specs.Rows.{RowsShared}
 use Rattle.registers.proofs.Sames.{with-settings, at-same, same-sym}
 use Rattle.registers.proofs.Forces.{force-shared}
-use Rattle.registers.proofs.Matches.{RowMatches, Matching, matching-refl, matching-more, matching-answered}
+use Rattle.registers.proofs.Matches.{Matching, matching-refl, matching-more, matching-answered}
 
 module _ {K : Type 0} (t : Time K) where
   -- what departed in one has departed in the other

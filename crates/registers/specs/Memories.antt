@@ -1,5 +1,6 @@
 -- What a taken call writes and what it does to the register agree. Assumes nothing.
 use Prim.Native.Nat.{ℕ, _+_, _≤_, _<_, _/_}
+use mathlib.Core.Path.{_≡_}
 use mathlib.Core.List.{List, _++_}
 use lib.ListN.{set, take, drop, replicate}
 use Rattle.std.specs.declared.option.Option.{Option}
@@ -15,7 +16,7 @@ use Rattle.records.specs.Stored.{Stored}
 use Rattle.rules.specs.declared.switches.Switch.{Switch}
 use Rattle.rules.specs.Rows.{RecordsListed, switch-rows}
 use Rattle.plan.specs.Steps.{unused, report-memory, hold-memory, switch-memory}
-use Rattle.registers.specs.Steps.{Same, enter-track, enter-run, enter-connection, set-switch, report, hold}
+use Rattle.registers.specs.Steps.{Same, empty, enter-track, enter-run, enter-connection, set-switch, report, hold}
 
 -- so many bytes from a place on are cleared
 abbrev pub cleared : List ℕ → ℕ → ℕ → List ℕ
@@ -66,8 +67,10 @@ module _ {K : Type 0} where
       connection-count = m .connection-count;
     }
 
-    -- each step on a memory is the step on the register that the memory stands for
+    -- A memory with nothing entered stands for the empty register, and each step on a memory is the step on the register that the
+    -- memory stands for.
     pub record StepsOf (m : Memory K) : Type 0 where
+      pub none : m .track-count ≡ 0 → m .run-count ≡ 0 → m .connection-count ≡ 0 → Same t (register-of t m) empty
       pub track : (x : Track K) → m .track-count < 64 → Same t (register-of t (track-memory m x)) (enter-track (register-of t m) x)
       pub run : (x : Run K) → m .run-count < 512 → orders-entered m + orders-added m (x .track) ≤ 4096 → Same t (register-of t (run-memory m x)) (enter-run (register-of t m) x)
       pub connection : (x : Connection K) → m .connection-count < 512 → Same t (register-of t (connection-memory m x)) (enter-connection (register-of t m) x)

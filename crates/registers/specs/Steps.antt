@@ -1,8 +1,8 @@
 -- What a taken call does to a register, and when two registers say the same. Assumes nothing.
-use Prim.Native.Nat.{ℕ, _+_, _<_, _/_, _%_}
+use Prim.Native.Nat.{ℕ, _<_, _/_, _%_}
 use mathlib.Core.Path.{_≡_}
 use mathlib.Core.Bool.{cond, _&&_}
-use mathlib.Core.List.{List, [], _∷_, _++_}
+use mathlib.Core.List.{[], _∷_, _++_}
 use lib.Dec.{eqb}
 use lib.ListN.{length, set}
 use Rattle.std.specs.declared.option.Option.{Option}
