@@ -1,0 +1,5 @@
+pub mod Steps
+pub mod Kept
+pub mod Force
+pub mod Memories
+pub mod Rows
