@@ -5,3 +5,5 @@ pub mod Agrees
 pub mod Matches
 pub mod Rows
 pub mod Reckons
+pub mod Stays
+pub mod Rings

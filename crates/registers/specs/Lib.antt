@@ -3,3 +3,5 @@ pub mod Kept
 pub mod Force
 pub mod Memories
 pub mod Rows
+pub mod Stays
+pub mod Rings
