@@ -1,8 +1,6 @@
 -- A report takes arcs away and a hold changes none, so where some table meets a register neither brings a ring.
 use Prim.Native.Nat.{ℕ, _+_, _*_, _<_, _/_, _%_}
 use mathlib.Core.Path.{_≡_, refl, sym, ap, _∙_, subst}
-use mathlib.Core.Bool.{cond}
-use mathlib.Core.List.{List}
 use mathlib.Core.Logic.{inl, inr}
 use native.Mathlib.Omega.{arith}
 use lib.Dec.{eqb}
@@ -14,7 +12,7 @@ use Rattle.std.proofs.shelf.Lists.{getD-set-same, getD-set-other, set-past, len
 use Rattle.std.proofs.shelf.Tests.{cases-eq, cases-lt, cond-both}
 use Rattle.kinds.specs.Time.{Time, Laws}
 use Rattle.network.specs.declared.Arc.{Arc}
-use Rattle.network.specs.Network.{HasRing, Names, Table, Meets}
+use Rattle.network.specs.Network.{HasRing, Table, Meets}
 use Rattle.network.proofs.Tables.{no-ring}
 use Rattle.records.specs.declared.Track.{Track}
 use Rattle.records.specs.declared.Run.{Run}
@@ -24,12 +22,12 @@ use Rattle.records.specs.Register.{Register}
 use Rattle.records.specs.Stored.{Limits}
 use Rattle.force.specs.Force.{Joins, Running, Dwell, Connects, Departures, Arrivals, Meeting, Ahead, InForce, running, dwell, connection, departures, arrivals, meeting}
 use Rattle.force.specs.Constraints.{arcs-in-force, in-force}
-use Rattle.force.proofs.Alike.{Renames, ring-there}
+use Rattle.force.proofs.Alike.{ring-there}
 use Rattle.force.proofs.Sizes.{in-force-fit}
 use Rattle.plan.specs.Steps.{reported, holding}
 use Rattle.registers.specs.Steps.{with-run, report, hold}
 use Rattle.registers.specs.Rings.{RingFree, NeverRing}
-use Rattle.registers.proofs.Kept.{track-still, ordered-still}
+use Rattle.registers.proofs.Kept.{ordered-still}
 
 module _ {K : Type 0} where
   -- what is not reported now was not reported before

@@ -1,13 +1,12 @@
 -- What the rules let through keeps the limits.
 use Prim.Native.Nat.{ℕ, _+_, _≤_, _<_, _/_, _%_}
-use mathlib.Core.Path.{_≡_, refl, sym, ap, _∙_, subst}
-use mathlib.Core.Bool.{cond, _&&_}
+use mathlib.Core.Path.{_≡_, refl, sym, ap, subst}
+use mathlib.Core.Bool.{_&&_}
 use mathlib.Core.List.{List, [], _∷_, _++_}
 use mathlib.Core.Logic.{inl, inr}
 use native.Mathlib.Omega.{arith}
 use lib.Dec.{eqb}
 use lib.ListN.{length, getD, set}
-use Rattle.std.specs.declared.option.Option.{Option}
 use Rattle.std.specs.declared.option.Option.the-variants.{Some, None}
 use Rattle.std.proofs.shelf.Lists.{getD-set-same, getD-set-other, getD-append-left, getD-push, length-set, length-push}
 use Rattle.std.proofs.shelf.Tests.{cases-eq, cases-lt, eq-eqb, ne-eqb, cond-true, cond-false, cond-both}
@@ -16,14 +15,14 @@ use Rattle.network.specs.Refusals.{Passed}
 use Rattle.records.specs.declared.Track.{Track}
 use Rattle.records.specs.declared.Run.{Run}
 use Rattle.records.specs.declared.Connection.{Connection}
-use Rattle.records.specs.Records.{run-at, track-at, connection-at, track-of}
+use Rattle.records.specs.Records.{run-at, connection-at, track-of}
 use Rattle.records.specs.Places.{count, total}
 use Rattle.records.specs.Register.{Register}
 use Rattle.records.specs.Stored.{Limits, Drafted, Unused, TrackStored, RunStored, ConnectionStored, ConnectionsStored}
 use Rattle.records.proofs.Counts.{count-kept, total-kept, total-more}
 use Rattle.rules.specs.declared.switches.Switch.{Switch}
 use Rattle.rules.specs.declared.switches.Switch.the-variants as switch
-use Rattle.rules.specs.Rows.{orders-with, track-rows, run-rows, connection-rows, setting-rows, report-rows, hold-rows, release-rows}
+use Rattle.rules.specs.Rows.{orders-with, track-rows, run-rows, connection-rows, report-rows, hold-rows, release-rows}
 use Rattle.rules.proofs.Rows.{track-passed, run-passed, connection-passed, setting-flag, turning-set, report-passed, hold-passed, release-passed}
 use Rattle.plan.specs.Steps.{unused, reported, holding}
 use Rattle.plan.proofs.Stays.{reported-stored, holding-stored}
