@@ -66,7 +66,7 @@ pub matching-answers : {X E : Type 0} (number place : E → ℕ) (xs ys : List R
 matching-answers number place xs ys r m h = answered number place xs ys r (matching-answered xs ys m) h
 
 -- where no row in front applies the answer is that of the rows behind
-first-behind : (xs ys : List Row) (n p : ℕ) → Passed xs → First (xs ++ ys) n p → First ys n p
+pub first-behind : (xs ys : List Row) (n p : ℕ) → Passed xs → First (xs ++ ys) n p → First ys n p
 first-behind [] ys n p off f = f
 first-behind (x ∷ xs) ys n p off (inl f) = absurd (off .0 (f .0))
 first-behind (x ∷ xs) ys n p off (inr f) = first-behind xs ys n p (off .1) (f .1)

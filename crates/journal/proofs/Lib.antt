@@ -1,0 +1,5 @@
+pub mod Told
+pub mod Reckonings
+pub mod Drafts
+pub mod Rules
+pub mod Openings

@@ -1,0 +1,4 @@
+pub mod Faults
+pub mod Books
+pub mod Rows
+pub mod Promise

@@ -1,0 +1,9 @@
+//! Lists of calls on a plan, and the promise over every such list.
+
+mod calls;
+mod drafting;
+
+pub use calls::Answer;
+pub use calls::Call;
+pub use calls::CallFault;
+pub use calls::Plan;
