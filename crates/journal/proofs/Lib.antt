@@ -3,3 +3,4 @@ pub mod Reckonings
 pub mod Drafts
 pub mod Rules
 pub mod Openings
+pub mod Controls

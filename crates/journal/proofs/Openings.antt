@@ -56,7 +56,7 @@ module _ {K : Type 0} (t : Time K) (d : Draft) (tracks : List (Track K)) (runs :
 
   pub open-taken : (o : Open) → (o .number ≡ d .number) × (o .tracks ≡ d .tracks) × (o .runs ≡ d .runs) × (o .connections ≡ d .connections) → Reckons t (opening-rows t w (draft-memory d tracks runs connections settings)) (register-of t (draft-memory d tracks runs connections settings)) times times′ ring ring′ (took Open o) → Told t l B call.Open (Ok answer.Done) ring′ trial × Stands t (taken t B call.Open) (state (stage.Open o) tracks runs connections settings times′ slips)
   open-taken o is k =
-      let r = reckoned-taken t (opening-rows t w (draft-memory d tracks runs connections settings)) [] [] (register-of t (draft-memory d tracks runs connections settings)) (B .register) off tt (st .same) times times′ ring ring′ Open o k in
+      let r = reckoned-taken t (opening-rows t w (draft-memory d tracks runs connections settings)) [] [] (register-of t (draft-memory d tracks runs connections settings)) (B .register) off tt (λ _. st .same) times times′ ring ring′ Open o k in
       let like : Open = record { number = d .number; tracks = d .tracks; runs = d .runs; connections = d .connections } in
       let same-open : like ≡ o = same-plan (sym (is .0)) (sym (is .1)) (sym (is .2)) (sym (is .3)) in
       let P : Open → Type 0 = λ x. Stands t (taken t B call.Open) (state (stage.Open x) tracks runs connections settings times′ slips) in
@@ -78,7 +78,7 @@ module _ {K : Type 0} (t : Time K) (d : Draft) (tracks : List (Track K)) (runs :
 
   pub open-refused : (d′ : Draft) (f : PlanFault) → d′ ≡ d → Reckons t (opening-rows t w (draft-memory d tracks runs connections settings)) (register-of t (draft-memory d tracks runs connections settings)) times times′ ring ring′ (failed Open f) → Told t l B call.Open (Err (fault.Plan f)) ring′ trial × Stands t B (state (stage.Draft d′) tracks runs connections settings times′ slips)
   open-refused d′ f is k =
-      let r = reckoned-refused t (opening-rows t w (draft-memory d tracks runs connections settings)) [] [] (register-of t (draft-memory d tracks runs connections settings)) (B .register) off tt (st .same) times times′ ring ring′ Open f k in
+      let r = reckoned-refused t (opening-rows t w (draft-memory d tracks runs connections settings)) [] [] (register-of t (draft-memory d tracks runs connections settings)) (B .register) off tt (λ _. st .same) times times′ ring ring′ tt Open f k in
       let P : Draft → Type 0 = λ x. Stands t B (state (stage.Draft x) tracks runs connections settings times slips) in
       let Q : List K → Type 0 = λ ts. Stands t B (state (stage.Draft d′) tracks runs connections settings ts slips) in
       (record {

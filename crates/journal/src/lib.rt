@@ -1,6 +1,7 @@
 //! Lists of calls on a plan, and the promise over every such list.
 
 mod calls;
+mod control;
 mod drafting;
 
 pub use calls::Answer;
