@@ -4,3 +4,4 @@ pub mod Drafts
 pub mod Rules
 pub mod Openings
 pub mod Controls
+pub mod Slips
