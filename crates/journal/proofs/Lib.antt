@@ -4,4 +4,5 @@ pub mod Drafts
 pub mod Rules
 pub mod Openings
 pub mod Controls
-pub mod Slips
+pub mod Holds
+pub mod Slots

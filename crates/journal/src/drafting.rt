@@ -128,3 +128,14 @@ pub(crate) fn draft_open<K: Kind>(
         }
     }
 }
+
+/// The setting of an order or a connection in a draft.
+pub(crate) fn draft_setting<K: Kind>(draft: &Draft, tracks: &[Track<K>], runs: &[Run<K>], connections: &[Connection<K>], settings: &[u8], switch: Switch) -> Result<Answer<K>, CallFault>
+    requires { ⌜ RecordsListed (draft-memory (now draft) (now tracks) (now runs) (now connections) (now settings)) ⌝ }
+    ensures { λ r. ⌜ ((l : Sizes) (times : List K) (slips : List (Option Slip)) (ring : List ℕ) (trial : List K) → AllListed l → Step (K·Kind .time) l (state (stage.Draft (now (draft .entry))) (now (tracks .entry)) (now (runs .entry)) (now (connections .entry)) (now (settings .entry)) times slips) (named.Setting switch) r ring trial (state (stage.Draft (now (draft .entry))) (now (tracks .entry)) (now (runs .entry)) (now (connections .entry)) (now (settings .entry)) times slips)) ⌝ }
+{
+    match draft.setting(tracks, runs, connections, settings, switch) {
+        Ok(setting) => Ok(Answer::Setting(setting)),
+        Err(fault) => Err(CallFault::Plan(fault)),
+    }
+}

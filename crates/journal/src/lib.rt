@@ -3,6 +3,7 @@
 mod calls;
 mod control;
 mod drafting;
+mod slips;
 
 pub use calls::Answer;
 pub use calls::Call;
