@@ -11,7 +11,7 @@ use Rattle.std.specs.declared.option.Option.{Option}
 use Rattle.std.specs.declared.option.Option.the-variants.{Some, None}
 use Rattle.std.specs.declared.result.Result.the-variants.{Ok, Err}
 use Rattle.std.proofs.shelf.Tests.{false≢true, cases-eq}
-use Rattle.std.proofs.shelf.Lists.{length-take-le, getD-set-same, getD-set-other, map-set}
+use Rattle.std.proofs.shelf.Lists.{length-take, length-take-le, getD-set-same, getD-set-other, map-set}
 use Rattle.kinds.specs.Time.{Time, Laws}
 use Rattle.network.specs.Network.{Least}
 use Rattle.network.specs.Reckoning.{at}
@@ -71,6 +71,24 @@ none-some e = let z : _≡_ {A = ℕ} 0 1 = cc in omega arith
 pub some-of : {X : Type 0} (o : Option X) → isSome o ≡ true → (x : X) × (o ≡ Some x)
 some-of None e = absurd (false≢true e)
 some-of (Some x) e = (x, refl)
+
+pub none-of : {X : Type 0} (o : Option X) → isSome o ≡ false → o ≡ None
+none-of None e = refl
+none-of (Some x) e = absurd (false≢true (sym e))
+
+-- a run that is entered has a slot
+pub kept-inside : {X : Type 0} (n : ℕ) (xs : List X) (r slots : ℕ) → r < length (take n xs) → length xs ≡ 512 → slots ≡ 512 → r < slots
+kept-inside n xs r slots h e f = let z = length-take n xs in omega (arith, z)
+
+pub slot-inside : {X : Type 0} (xs : List (Option X)) (i : ℕ) (x : X) → getD xs i None ≡ Some x → i < length xs
+slot-inside [] i x e = absurd (none-some e)
+slot-inside (y ∷ ys) zero x e = omega arith
+slot-inside (y ∷ ys) (suc i) x e = let h = slot-inside ys i x e in omega arith
+
+pub emptied : {X : Type 0} (xs : List (Option X)) (i : ℕ) → getD xs i None ≡ None → set xs i None ≡ xs
+emptied [] i e = refl
+emptied (x ∷ xs) zero e = ap (λ y. y ∷ xs) (sym e)
+emptied (x ∷ xs) (suc i) e = ap (λ ys. x ∷ ys) (emptied xs i e)
 
 module _ {K : Type 0} (t : Time K) (laws : Laws t) (o : Open) (tracks : List (Track K)) (runs : List (Run K)) (connections : List (Connection K)) (settings : List ℕ) (times : List K) (slips : List (Option Slip))
   (B : Books K) (st : Stands t B (state (stage.Open o) tracks runs connections settings times slips)) (records : RecordsListed (open-memory o tracks runs connections settings)) (long-times : length times ≡ 1024) (long-slips : length slips ≡ 512)

@@ -5,4 +5,4 @@ pub mod Rules
 pub mod Openings
 pub mod Controls
 pub mod Holds
-pub mod Slots
+pub mod Questions

@@ -26,6 +26,9 @@ pub record Sizes : Type 0 where
   pub slips : ℕ
   pub work : Lengths
 
+abbrev pub sizes : ℕ → ℕ → ℕ → ℕ → ℕ → ℕ → Lengths → Sizes
+sizes tr r c s t k w = record { tracks = tr; runs = r; connections = c; settings = s; trial = t; slips = k; work = w }
+
 pub record AllListed (l : Sizes) : Type 0 where
   pub tracks : l .tracks ≡ 64
   pub runs : l .runs ≡ 512

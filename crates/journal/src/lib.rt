@@ -3,6 +3,7 @@
 mod calls;
 mod control;
 mod drafting;
+mod performing;
 mod slips;
 
 pub use calls::Answer;

@@ -34,5 +34,8 @@ pub(crate) fn pick_slip(slips: &mut [Option<Slip>], run: u16) -> Option<Slip>
 pub(crate) fn kept_slip(slips: &[Option<Slip>], run: u16) -> bool
     ensures { λ r. ⌜ r ≡ isSome (getD (now (slips .entry)) run None) ⌝ }
 {
-    (run as usize) < slips.len() && slips[run as usize].is_some()
+    if run as usize >= slips.len() {
+        return false;
+    }
+    slips[run as usize].is_some()
 }
