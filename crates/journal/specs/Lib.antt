@@ -1,4 +1,0 @@
-pub mod Faults
-pub mod Books
-pub mod Rows
-pub mod Promise
