@@ -57,7 +57,7 @@ length-map : {X Y : Type 0} (f : X → Y) (xs : List X) → length (map f xs) �
 length-map f [] = refl
 length-map f (x ∷ xs) = ap suc (length-map f xs)
 
-getD-map : (xs : List (Option Slip)) (i : ℕ) → getD (map isSome xs) i false ≡ isSome (getD xs i None)
+pub getD-map : (xs : List (Option Slip)) (i : ℕ) → getD (map isSome xs) i false ≡ isSome (getD xs i None)
 getD-map [] i = refl
 getD-map (x ∷ xs) zero = refl
 getD-map (x ∷ xs) (suc i) = getD-map xs i

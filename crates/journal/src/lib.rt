@@ -10,3 +10,4 @@ pub use calls::Answer;
 pub use calls::Call;
 pub use calls::CallFault;
 pub use calls::Plan;
+pub use performing::perform;
