@@ -63,11 +63,11 @@ use Rattle.journal.proofs.Reckonings.{reckoned-taken, reckoned-refused}
 run-kept : {K : Type 0} (t : Time K) (runs : List (Run K)) (k : ℕ) (x : Run K) → x .hold ≡ run-at t runs k .hold → (r : ℕ) → run-at t (set runs k x) r .hold ≡ run-at t runs r .hold
 run-kept t runs k x e r =
     elim (cases-lt k (length runs)) [
-      inl inside ↦ elim (cases-eq r k) [
-          inl q ↦ ap (λ i. run-at t (set runs k x) i .hold) q ∙ ap (λ y. y .hold) (getD-set-same runs k x _ inside) ∙ e ∙ ap (λ i. run-at t runs i .hold) (sym q)
+      | inl inside ↦ elim (cases-eq r k) [
+        | inl q ↦ ap (λ i. run-at t (set runs k x) i .hold) q ∙ ap (λ y. y .hold) (getD-set-same runs k x _ inside) ∙ e ∙ ap (λ i. run-at t runs i .hold) (sym q)
         | inr ne ↦ ap (λ y. y .hold) (getD-set-other runs k r x _ ne)
-        ]
-    | inr out ↦ ap (λ ys. run-at t ys r .hold) (set-out runs k x out)
+      ]
+      | inr out ↦ ap (λ ys. run-at t ys r .hold) (set-out runs k x out)
     ]
 
 switched-runs : {K : Type 0} (R : Register K) (s : Switch) (setting : ℕ) → set-switch R s setting .runs ≡ R .runs
@@ -75,7 +75,7 @@ switched-runs R (switch.Order i j) setting = refl
 switched-runs R (switch.Connection c) setting = refl
 
 module _ {K : Type 0} (t : Time K) (laws : Laws t) (o : Open) (tracks : List (Track K)) (runs : List (Run K)) (connections : List (Connection K)) (settings : List ℕ) (times : List K) (slips : List (Option Slip))
-  (B : Books K) (st : Stands t B (state (stage.Open o) tracks runs connections settings times slips)) (records : RecordsListed (open-memory o tracks runs connections settings)) (long-times : length times ≡ 1024) where
+    (B : Books K) (st : Stands t B (state (stage.Open o) tracks runs connections settings times slips)) (records : RecordsListed (open-memory o tracks runs connections settings)) (long-times : length times ≡ 1024) where
   abbrev m : Memory K
   m = open-memory o tracks runs connections settings
 
@@ -118,9 +118,9 @@ module _ {K : Type 0} (t : Time K) (laws : Laws t) (o : Open) (tracks : List (Tr
       shows = λ _. least;
       slips = st .slips;
       held = λ _ r h. (
-        let was-held = st .held opened r (omega arith) in
-        let P : Option K → Type 0 = Given in
-        ((λ e. subst P (sym (holds r)) (was-held .0 e)), (λ given. was-held .1 (subst P (holds r) given))));
+          let was-held = st .held opened r (omega arith) in
+          let P : Option K → Type 0 = Given in
+          ((λ e. subst P (sym (holds r)) (was-held .0 e)), (λ given. was-held .1 (subst P (holds r) given))));
       own = λ r x e. (let w = st .own r x e in let z = w .2 in (w .0, w .1, omega arith));
     }
 

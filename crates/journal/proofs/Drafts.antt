@@ -154,9 +154,10 @@ module _ {K : Type 0} (t : Time K) (d : Draft) (tracks : List (Track K)) (runs :
             let same : Same t (register-of t (track-memory (draft-memory d tracks runs connections settings) x)) (enter-track (B .register) x) = same-trans t _ _ _ (track-agrees t (draft-memory d tracks runs connections settings) (st .stored) records x (omega (arith, room .1))) (enter-track-kept t was (B .register) (st .same) x) in
             let stored = stored-by (track-memory (draft-memory d tracks runs connections settings) x) (enter-track (B .register) x) (omega (arith, room .1)) (st .stored .few-runs) (st .stored .few-connections) same (kept .steps (B .register) limits .track x here) in
             let P : Draft → Type 0 = λ dd. Stands t (taken t B (call.Track x)) (state (stage.Draft dd) (set tracks (d .tracks) x) runs connections settings times slips) in
-            let Q : List (Track K) → Type 0 = λ ts. Stands t (taken t B (call.Track x)) (state (stage.Draft d′) ts runs connections settings times slips) in
-            (draft-taken (call.Track x) own refl (shared .track x) (answer.Number n) (ap answer.Number (e .last ∙ sym z)) passed,
-             subst Q (ap (λ i. set tracks i x) (sym (e .last)) ∙ sym (e .written)) (subst P (sym (e .counted)) (draft-stands (with-track d) (set tracks (d .tracks) x) runs connections settings (enter-track (B .register) x) refl stored same (kept .drafted (B .register) drafted .track x) (λ r h. h))))
+            let Q : List (Track K) → Type 0 = λ ts. Stands t (taken t B (call.Track x)) (state (stage.Draft d′) ts runs connections settings times slips) in (
+              draft-taken (call.Track x) own refl (shared .track x) (answer.Number n) (ap answer.Number (e .last ∙ sym z)) passed,
+              subst Q (ap (λ i. set tracks i x) (sym (e .last)) ∙ sym (e .written)) (subst P (sym (e .counted)) (draft-stands (with-track d) (set tracks (d .tracks) x) runs connections settings (enter-track (B .register) x) refl stored same (kept .drafted (B .register) drafted .track x) (λ r h. h))),
+            )
 
         pub run-step : (x : Run K) (n : ℕ) (d′ : Draft) (runs′ : List (Run K)) (settings′ : List ℕ) → Passed (run-call-rows t (draft-memory d tracks runs connections settings) x) → RunEntered t d d′ runs runs′ settings settings′ x n → Told t l B (call.Run x) (Ok (answer.Number n)) ring trial × Stands t (taken t B (call.Run x)) (state (stage.Draft d′) tracks runs′ connections settings′ times slips)
         run-step x n d′ runs′ settings′ passed e =
@@ -177,9 +178,10 @@ module _ {K : Type 0} (t : Time K) (d : Draft) (tracks : List (Track K)) (runs :
             let bytes : ℕ → List ℕ = λ i. cleared settings (total (track-of t (take i runs)) i) (count (track-of t (take i runs)) (x .track) i) in
             let P : Draft → Type 0 = λ dd. Stands t (taken t B (call.Run x)) (state (stage.Draft dd) tracks (run-memory t m x .runs) connections (run-memory t m x .settings) times slips) in
             let Q : List (Run K) → Type 0 = λ rs. Stands t (taken t B (call.Run x)) (state (stage.Draft d′) tracks rs connections (run-memory t m x .settings) times slips) in
-            let S : List ℕ → Type 0 = λ bs. Stands t (taken t B (call.Run x)) (state (stage.Draft d′) tracks runs′ connections bs times slips) in
-            (draft-taken (call.Run x) own refl (shared .run x) (answer.Number n) (ap answer.Number (e .last ∙ sym z)) passed,
-             subst S (ap bytes (sym (e .last)) ∙ sym (e .ahead)) (subst Q (ap (λ i. set runs i (unused x)) (sym (e .last)) ∙ sym (e .written)) (subst P (sym (e .counted)) base)))
+            let S : List ℕ → Type 0 = λ bs. Stands t (taken t B (call.Run x)) (state (stage.Draft d′) tracks runs′ connections bs times slips) in (
+              draft-taken (call.Run x) own refl (shared .run x) (answer.Number n) (ap answer.Number (e .last ∙ sym z)) passed,
+              subst S (ap bytes (sym (e .last)) ∙ sym (e .ahead)) (subst Q (ap (λ i. set runs i (unused x)) (sym (e .last)) ∙ sym (e .written)) (subst P (sym (e .counted)) base)),
+            )
 
         pub connection-step : (x : Connection K) (n : ℕ) (d′ : Draft) (connections′ : List (Connection K)) (settings′ : List ℕ) → Passed (connection-call-rows t (draft-memory d tracks runs connections settings) x) → ConnectionEntered d d′ connections connections′ settings settings′ x n → Told t l B (call.Connection x) (Ok (answer.Number n)) ring trial × Stands t (taken t B (call.Connection x)) (state (stage.Draft d′) tracks runs connections′ settings′ times slips)
         connection-step x n d′ connections′ settings′ passed e =
@@ -193,9 +195,10 @@ module _ {K : Type 0} (t : Time K) (d : Draft) (tracks : List (Track K)) (runs :
             let base = draft-stands (with-connection d) tracks runs (connection-memory m x .connections) (connection-memory m x .settings) (enter-connection (B .register) x) refl stored same (kept .drafted (B .register) drafted .connection x) (λ r h. h) in
             let P : Draft → Type 0 = λ dd. Stands t (taken t B (call.Connection x)) (state (stage.Draft dd) tracks runs (connection-memory m x .connections) (connection-memory m x .settings) times slips) in
             let Q : List (Connection K) → Type 0 = λ cs. Stands t (taken t B (call.Connection x)) (state (stage.Draft d′) tracks runs cs (connection-memory m x .settings) times slips) in
-            let S : List ℕ → Type 0 = λ bs. Stands t (taken t B (call.Connection x)) (state (stage.Draft d′) tracks runs connections′ bs times slips) in
-            (draft-taken (call.Connection x) own refl (shared .connection x) (answer.Number n) (ap answer.Number (e .last ∙ sym z)) passed,
-             subst S (ap (λ i. set settings (4096 + i) 0) (sym (e .last)) ∙ sym (e .kept)) (subst Q (ap (λ i. set connections i x) (sym (e .last)) ∙ sym (e .written)) (subst P (sym (e .counted)) base)))
+            let S : List ℕ → Type 0 = λ bs. Stands t (taken t B (call.Connection x)) (state (stage.Draft d′) tracks runs connections′ bs times slips) in (
+              draft-taken (call.Connection x) own refl (shared .connection x) (answer.Number n) (ap answer.Number (e .last ∙ sym z)) passed,
+              subst S (ap (λ i. set settings (4096 + i) 0) (sym (e .last)) ∙ sym (e .kept)) (subst Q (ap (λ i. set connections i x) (sym (e .last)) ∙ sym (e .written)) (subst P (sym (e .counted)) base)),
+            )
 
         pub preset-step : (s : Switch) (setting : ℕ) (settings′ : List ℕ) → Passed (preset-call-rows t (draft-memory d tracks runs connections settings) s setting) → settings′ ≡ set settings (setting-place t was s) setting → Told t l B (call.Preset s setting) (Ok answer.Done) ring trial × Stands t (taken t B (call.Preset s setting)) (state (stage.Draft d) tracks runs connections settings′ times slips)
         preset-step s setting settings′ passed e =
@@ -205,9 +208,10 @@ module _ {K : Type 0} (t : Time K) (d : Draft) (tracks : List (Track K)) (runs :
             let known = setting-named t was s setting (passed-back (draft-rows t m) (own was) passed) in
             let same : Same t (register-of t (switch-memory t m s setting)) (set-switch (B .register) s setting) = same-trans t _ _ _ (steps-of t m (st .stored) records .switch s setting known) (set-switch-kept t was (B .register) (st .same) s setting) in
             let stored = stored-by (switch-memory t m s setting) (set-switch (B .register) s setting) (st .stored .few-tracks) (st .stored .few-runs) (st .stored .few-connections) same (kept .steps (B .register) limits .setting s setting here) in
-            let S : List ℕ → Type 0 = λ bs. Stands t (taken t B (call.Preset s setting)) (state (stage.Draft d) tracks runs connections bs times slips) in
-            (draft-taken (call.Preset s setting) own refl (shared .setting s setting) answer.Done refl passed,
-             subst S (sym e) (draft-stands d tracks runs connections (switch-memory t m s setting .settings) (set-switch (B .register) s setting) refl stored same (kept .drafted (B .register) drafted .switch s setting) (set-runs s)))
+            let S : List ℕ → Type 0 = λ bs. Stands t (taken t B (call.Preset s setting)) (state (stage.Draft d) tracks runs connections bs times slips) in (
+              draft-taken (call.Preset s setting) own refl (shared .setting s setting) answer.Done refl passed,
+              subst S (sym e) (draft-stands d tracks runs connections (switch-memory t m s setting .settings) (set-switch (B .register) s setting) refl stored same (kept .drafted (B .register) drafted .switch s setting) (set-runs s)),
+            )
           where
             set-runs : (s : Switch) (r : ℕ) → r < length (B .register .runs) → r < length (set-switch (B .register) s setting .runs)
             set-runs (switch.Order i j) r h = h

@@ -91,8 +91,8 @@ emptied (x ∷ xs) zero e = ap (λ y. y ∷ xs) (sym e)
 emptied (x ∷ xs) (suc i) e = ap (λ ys. x ∷ ys) (emptied xs i e)
 
 module _ {K : Type 0} (t : Time K) (laws : Laws t) (o : Open) (tracks : List (Track K)) (runs : List (Run K)) (connections : List (Connection K)) (settings : List ℕ) (times : List K) (slips : List (Option Slip))
-  (B : Books K) (st : Stands t B (state (stage.Open o) tracks runs connections settings times slips)) (records : RecordsListed (open-memory o tracks runs connections settings)) (long-times : length times ≡ 1024) (long-slips : length slips ≡ 512)
-  (l : Sizes) (listed : AllListed l) (ring ring′ : List ℕ) (trial : List K) (w : Lengths) (works : Listed w) (kept : LimitsKept t) where
+    (B : Books K) (st : Stands t B (state (stage.Open o) tracks runs connections settings times slips)) (records : RecordsListed (open-memory o tracks runs connections settings)) (long-times : length times ≡ 1024) (long-slips : length slips ≡ 512)
+    (l : Sizes) (listed : AllListed l) (ring ring′ : List ℕ) (trial : List K) (w : Lengths) (works : Listed w) (kept : LimitsKept t) where
   abbrev m : Memory K
   m = open-memory o tracks runs connections settings
 
@@ -128,8 +128,8 @@ module _ {K : Type 0} (t : Time K) (laws : Laws t) (o : Open) (tracks : List (Tr
 
   -- the plan with run r held until a time or free, and its slot so
   slot-stands : (r : ℕ) (until : Option K) (slot : Option Slip) (times′ : List K) → r < o .runs → Limits t (hold t (B .register) r until) → Least t (in-force t (hold t (B .register) r until)) (at t times′)
-    → (isSome slot ≡ true → Given until) × (Given until → isSome slot ≡ true) → ((x : Slip) → slot ≡ Some x → (x .plan ≡ B .number) × (x .run ≡ r))
-    → Stands t (record { number = B .number; opened = B .opened; register = hold t (B .register) r until; slips = set (B .slips) r (isSome slot) }) (state (stage.Open o) tracks (hold-memory t m r until .runs) connections settings times′ (set slips r slot))
+      → (isSome slot ≡ true → Given until) × (Given until → isSome slot ≡ true) → ((x : Slip) → slot ≡ Some x → (x .plan ≡ B .number) × (x .run ≡ r))
+      → Stands t (record { number = B .number; opened = B .opened; register = hold t (B .register) r until; slips = set (B .slips) r (isSome slot) }) (state (stage.Open o) tracks (hold-memory t m r until .runs) connections settings times′ (set slips r slot))
   slot-stands r until slot times′ h good least both mine =
       let z = long-runs in
       let y = few-runs in
@@ -143,7 +143,7 @@ module _ {K : Type 0} (t : Time K) (laws : Laws t) (o : Open) (tracks : List (Tr
         shows = λ _. least;
         slips = map-set isSome slips r slot ∙ ap (λ bs. set bs r (isSome slot)) (st .slips);
         held = λ _ i g. elim (cases-eq i r) [
-            inl q ↦ (
+          | inl q ↦ (
               let P : ℕ → Type 0 = λ k. (getD (set (B .slips) r (isSome slot)) k false ≡ true → Given (run-at t (hold t (B .register) r until .runs) k .hold)) × (Given (run-at t (hold t (B .register) r until .runs) k .hold) → getD (set (B .slips) r (isSome slot)) k false ≡ true) in
               let slot-is = getD-set-same (B .slips) r (isSome slot) false (omega arith) in
               let hold-is = ap (λ y. y .hold) (getD-set-same (B .register .runs) r (holding (run-at t (B .register .runs) r) until) (run-at t [] 0) (omega arith)) in
@@ -156,17 +156,17 @@ module _ {K : Type 0} (t : Time K) (laws : Laws t) (o : Open) (tracks : List (Tr
               let hold-is = ap (λ y. y .hold) (getD-set-other (B .register .runs) r i (holding (run-at t (B .register .runs) r) until) (run-at t [] 0) ne) in
               let G : Option K → Type 0 = Given in
               ((λ e. subst G (sym hold-is) (old .0 (sym slot-is ∙ e))), (λ given. slot-is ∙ old .1 (subst G hold-is given))))
-          ];
+        ];
         own = λ i x e. (
-          let long = length-set (B .register .runs) r (holding (run-at t (B .register .runs) r) until) in
-          elim (cases-eq i r) [
-            inl q ↦ (
-              let here = getD-set-same slips r slot None (omega arith) in
-              let is : slot ≡ Some x = sym here ∙ ap (λ k. getD (set slips r slot) k None) (sym q) ∙ e in
-              let f = mine x is in
-              (f .0, f .1 ∙ sym q, omega arith))
-          | inr ne ↦ (let f = st .own i x (sym (getD-set-other slips r i slot None ne) ∙ e) in let g = f .2 in (f .0, f .1, omega arith))
-          ]);
+            let long = length-set (B .register .runs) r (holding (run-at t (B .register .runs) r) until) in
+            elim (cases-eq i r) [
+              | inl q ↦ (
+                  let here = getD-set-same slips r slot None (omega arith) in
+                  let is : slot ≡ Some x = sym here ∙ ap (λ k. getD (set slips r slot) k None) (sym q) ∙ e in
+                  let f = mine x is in
+                  (f .0, f .1 ∙ sym q, omega arith))
+              | inr ne ↦ (let f = st .own i x (sym (getD-set-other slips r i slot None ne) ∙ e) in let g = f .2 in (f .0, f .1, omega arith))
+            ]);
       }
 
   pub hold-step : (r : ℕ) (until : K) (times′ : List K) (runs′ : List (Run K)) (s : Slip) → Reckons t (open-call-rows t w m times ++ hold-rows t was r until) (register-of t (hold-memory t m r (Some until))) times times′ ring ring′ (took Slip s) → runs′ ≡ hold-memory t m r (Some until) .runs → (s .plan ≡ o .number) × (s .run ≡ r) → Told t l B (call.Hold r until) (Ok answer.Done) ring′ trial × Stands t (taken t B (call.Hold r until)) (state (stage.Open o) tracks runs′ connections settings times′ (set slips r (Some s)))

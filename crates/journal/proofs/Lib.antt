@@ -6,3 +6,4 @@ pub mod Openings
 pub mod Controls
 pub mod Holds
 pub mod Questions
+pub mod Journals

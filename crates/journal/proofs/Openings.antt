@@ -39,8 +39,8 @@ same-plan : {n n′ a a′ b b′ e e′ : ℕ} → n ≡ n′ → a ≡ a′ �
 same-plan p q r s = cc
 
 module _ {K : Type 0} (t : Time K) (d : Draft) (tracks : List (Track K)) (runs : List (Run K)) (connections : List (Connection K)) (settings : List ℕ) (times : List K) (slips : List (Option Slip))
-  (B : Books K) (st : Stands t B (state (stage.Draft d) tracks runs connections settings times slips)) (l : Sizes) (listed : AllListed l) (records : RecordsListed (draft-memory d tracks runs connections settings))
-  (w : Lengths) (works : Listed w) (times′ : List K) (ring ring′ : List ℕ) (trial : List K) where
+    (B : Books K) (st : Stands t B (state (stage.Draft d) tracks runs connections settings times slips)) (l : Sizes) (listed : AllListed l) (records : RecordsListed (draft-memory d tracks runs connections settings))
+    (w : Lengths) (works : Listed w) (times′ : List K) (ring ring′ : List ℕ) (trial : List K) where
   off : Passed (opening-rows t w (draft-memory d tracks runs connections settings))
   off = ((λ no-lists. no-lists works), draft-passed t d tracks runs connections settings times slips B st records)
 
@@ -59,30 +59,34 @@ module _ {K : Type 0} (t : Time K) (d : Draft) (tracks : List (Track K)) (runs :
       let r = reckoned-taken t (opening-rows t w (draft-memory d tracks runs connections settings)) [] [] (register-of t (draft-memory d tracks runs connections settings)) (B .register) off tt (λ _. st .same) times times′ ring ring′ Open o k in
       let like : Open = record { number = d .number; tracks = d .tracks; runs = d .runs; connections = d .connections } in
       let same-open : like ≡ o = same-plan (sym (is .0)) (sym (is .1)) (sym (is .2)) (sym (is .3)) in
-      let P : Open → Type 0 = λ x. Stands t (taken t B call.Open) (state (stage.Open x) tracks runs connections settings times′ slips) in
-      (record {
-        answers = fronts-pass t d tracks runs connections settings times slips B st l listed (ring-rows t (B .register)) (r .0);
-        carried = refl;
-        named = tt;
-      }, subst P same-open (record {
-        number = st .number;
-        opened = refl;
-        stored = st .stored;
-        same = st .same;
-        drafted = λ e. absurd (false≢true (sym e));
-        shows = λ _. r .1;
-        slips = st .slips;
-        held = λ _. free;
-        own = st .own;
-      }))
+      let P : Open → Type 0 = λ x. Stands t (taken t B call.Open) (state (stage.Open x) tracks runs connections settings times′ slips) in (
+        record {
+          answers = fronts-pass t d tracks runs connections settings times slips B st l listed (ring-rows t (B .register)) (r .0);
+          carried = refl;
+          named = tt;
+        },
+        subst P same-open (record {
+          number = st .number;
+          opened = refl;
+          stored = st .stored;
+          same = st .same;
+          drafted = λ e. absurd (false≢true (sym e));
+          shows = λ _. r .1;
+          slips = st .slips;
+          held = λ _. free;
+          own = st .own;
+        }),
+      )
 
   pub open-refused : (d′ : Draft) (f : PlanFault) → d′ ≡ d → Reckons t (opening-rows t w (draft-memory d tracks runs connections settings)) (register-of t (draft-memory d tracks runs connections settings)) times times′ ring ring′ (failed Open f) → Told t l B call.Open (Err (fault.Plan f)) ring′ trial × Stands t B (state (stage.Draft d′) tracks runs connections settings times′ slips)
   open-refused d′ f is k =
       let r = reckoned-refused t (opening-rows t w (draft-memory d tracks runs connections settings)) [] [] (register-of t (draft-memory d tracks runs connections settings)) (B .register) off tt (λ _. st .same) times times′ ring ring′ tt Open f k in
       let P : Draft → Type 0 = λ x. Stands t B (state (stage.Draft x) tracks runs connections settings times slips) in
-      let Q : List K → Type 0 = λ ts. Stands t B (state (stage.Draft d′) tracks runs connections settings ts slips) in
-      (record {
-        answers = fronts-first t d tracks runs connections settings times slips B st l listed (ring-rows t (B .register)) _ _ (r .0);
-        carried = tt;
-        named = r .1;
-      }, subst Q (sym (k .shows)) (subst P (sym is) st))
+      let Q : List K → Type 0 = λ ts. Stands t B (state (stage.Draft d′) tracks runs connections settings ts slips) in (
+        record {
+          answers = fronts-first t d tracks runs connections settings times slips B st l listed (ring-rows t (B .register)) _ _ (r .0);
+          carried = tt;
+          named = r .1;
+        },
+        subst Q (sym (k .shows)) (subst P (sym is) st),
+      )

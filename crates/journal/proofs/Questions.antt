@@ -64,7 +64,7 @@ use Rattle.registers.proofs.Rows.{setting-same}
 use Rattle.journal.proofs.Controls.{opened, open-passed, fronts-first, time-step, cost-step}
 
 module _ {K : Type 0} (t : Time K) (laws : Laws t) (o : Open) (tracks : List (Track K)) (runs : List (Run K)) (connections : List (Connection K)) (settings : List ℕ) (times : List K) (slips : List (Option Slip))
-  (B : Books K) (st : Stands t B (state (stage.Open o) tracks runs connections settings times slips)) (records : RecordsListed (open-memory o tracks runs connections settings)) (long-times : length times ≡ 1024) (l : Sizes) (listed : AllListed l) (ring ring′ : List ℕ) (trial : List K) where
+    (B : Books K) (st : Stands t B (state (stage.Open o) tracks runs connections settings times slips)) (records : RecordsListed (open-memory o tracks runs connections settings)) (long-times : length times ≡ 1024) (l : Sizes) (listed : AllListed l) (ring ring′ : List ℕ) (trial : List K) where
   abbrev m : Memory K
   m = open-memory o tracks runs connections settings
 

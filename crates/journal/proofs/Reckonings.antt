@@ -71,8 +71,8 @@ module _ {K : Type 0} (t : Time K) where
     pub reckoned-refused : Under 12 own → (X : Type 0) (f : PlanFault) → Reckons t (fronts ++ own) R was times ring-was ring (failed X f) → First (own′ ++ ring-rows t R′) (plan-number f) (plan-place f) × RingTold t R′ ring (Err (fault.Plan f))
     reckoned-refused under X f k =
         elim (first-split own (row 12 0 (NoTable t (in-force t R))) (plan-number f) (plan-place f) (first-drop fronts own (ring-rows t R) _ _ off (k .answers))) [
-          inl first ↦ (first-front own′ (ring-rows t R′) _ _ (matching-first own own′ match _ _ first), none-told t R′ ring own under f first)
-        | inr fine ↦ (
-            let there = reckons-there t R R′ (same fine) (fronts ++ own) (fronts ++ own′) was times ring-was ring (failed X f) (matching-more fronts fronts own own′ (matching-refl fronts) (λ _. match)) k in
-            (first-drop fronts own′ (ring-rows t R′) _ _ off (there .answers), ring-told R′ ring-was ring f (there .names)))
+          | inl first ↦ (first-front own′ (ring-rows t R′) _ _ (matching-first own own′ match _ _ first), none-told t R′ ring own under f first)
+          | inr fine ↦ (
+              let there = reckons-there t R R′ (same fine) (fronts ++ own) (fronts ++ own′) was times ring-was ring (failed X f) (matching-more fronts fronts own own′ (matching-refl fronts) (λ _. match)) k in
+              (first-drop fronts own′ (ring-rows t R′) _ _ off (there .answers), ring-told R′ ring-was ring f (there .names)))
         ]

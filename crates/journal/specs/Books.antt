@@ -15,6 +15,7 @@ use Rattle.journal.specs.declared.calls.Call.{Call}
 use Rattle.journal.specs.declared.calls.Call.the-variants as call
 use Rattle.journal.specs.declared.calls.Answer.{Answer}
 use Rattle.journal.specs.declared.calls.CallFault.{CallFault}
+use Rattle.journal.specs.declared.calls.Line.{Line}
 
 -- a plan's number, whether it is open, its register, and the runs whose slip is kept
 pub record Books (K : Type 0) : Type 0 where
@@ -28,9 +29,9 @@ abbrev pub Reply : Type 0 → Type 0
 Reply K = Result (Answer K) CallFault
 
 module _ {K : Type 0} where
-  -- a newly made plan
-  abbrev pub new : ℕ → Books K
-  new number = record { number = number; opened = false; register = empty; slips = replicate 512 false }
+  -- a newly made plan, with so many slots for slips, all empty
+  abbrev pub new : ℕ → ℕ → Books K
+  new number slots = record { number = number; opened = false; register = empty; slips = replicate slots false }
 
   abbrev pub with-register : Books K → Register K → Books K
   with-register B R = record { number = B .number; opened = B .opened; register = R; slips = B .slips }
@@ -56,3 +57,8 @@ module _ {K : Type 0} where
     abbrev pub after : Books K → Call K → Reply K → Books K
     after B c (Ok a) = taken B c
     after B c (Err f) = B
+
+    -- the books after the lines of a journal
+    abbrev pub registered : Books K → List (Line K) → Books K
+    registered B [] = B
+    registered B (x ∷ xs) = registered (after B (x .call) (x .reply)) xs

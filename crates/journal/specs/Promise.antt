@@ -34,10 +34,11 @@ use Rattle.journal.specs.declared.calls.Answer.{Answer}
 use Rattle.journal.specs.declared.calls.Answer.the-variants as answer
 use Rattle.journal.specs.declared.calls.CallFault.{CallFault}
 use Rattle.journal.specs.declared.calls.CallFault.the-variants as fault
+use Rattle.journal.specs.declared.calls.Line.{Line}
 use Rattle.journal.specs.declared.calls.Plan.{Plan}
 use Rattle.journal.specs.declared.calls.Plan.the-variants as plan
 use Rattle.journal.specs.Faults.{call-number, call-place}
-use Rattle.journal.specs.Books.{Books, Reply, taken, after}
+use Rattle.journal.specs.Books.{Books, Reply, taken, after, registered}
 use Rattle.journal.specs.Rows.{Sizes, call-rows}
 
 -- A plan with its memories, but for working memory.
@@ -151,3 +152,16 @@ module _ {K : Type 0} where
     -- for the books after it
     abbrev pub Step : Sizes → State K → Call K → Reply K → List ℕ → List K → State K → Type 0
     Step l s c r ring trial s′ = (B : Books K) → Stands B s → Told l B c r ring trial × Stands (after t B c r) s′
+
+    -- every reply of a journal tells the truth of the books as they stood before its call, with what ring and trial memory then held
+    abbrev pub Told-all : Sizes → Books K → List (Line K) → Type 0
+    Told-all l B [] = Unit {0}
+    Told-all l B (x ∷ xs) = ((ring : List ℕ) × ((trial : List K) × Told l B (x .call) (x .reply) ring trial)) × Told-all l (after t B (x .call) (x .reply)) xs
+
+    -- a whole list of calls, taken or refused: whatever books the memories stood for, every reply tells the truth, and the memories then
+    -- stand for the books after all of them
+    abbrev pub Steps : Sizes → State K → List (Line K) → State K → Type 0
+    Steps l s lines s′ = (B : Books K) → Stands B s → Told-all l B lines × Stands (registered t B lines) s′
+
+  abbrev pub call-of : Line K → Call K
+  call-of x = x .call

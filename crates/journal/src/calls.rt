@@ -49,6 +49,13 @@ pub enum CallFault {
     Plan(PlanFault),
 }
 
+/// A line of a journal: a call, and the reply to it.
+#[derive(Clone, Copy)]
+pub struct Line<K> {
+    pub call: Call<K>,
+    pub reply: Result<Answer<K>, CallFault>,
+}
+
 /// A plan in one of its two states.
 #[derive(Drop)]
 pub enum Plan {

@@ -15,11 +15,11 @@ ghost use Rattle.journal.specs.Rows.{Sizes, AllListed};
 ghost use Rattle.journal.specs.Promise.{state, Step};
 use crate::Answer;
 use crate::CallFault;
-use kinds::Kind;
-use network::Arc;
 use crate::slips::kept_slip;
 use crate::slips::pick_slip;
 use crate::slips::put_slip;
+use kinds::Kind;
+use network::Arc;
 use plan::Open;
 use plan::Slip;
 use plan::Unreleased;
@@ -53,7 +53,23 @@ pub(crate) fn open_report<K: Kind>(
     requires listed { ⌜ Listed (lengths (length (now times)) (length (now ring)) (length (now counts)) (length (now sums)) (length (now befores)) (length (now floors)) (length (now arcs)) (length (now tables)) (length (now marks))) ⌝ }
     ensures { λ r. ⌜ ((l : Sizes) (slips : List (Option Token)) (trial : List K) → AllListed l → Step (K·Kind .time) l (state (stage.Open (now (plan .entry))) (now (tracks .entry)) (now (runs .entry)) (now (connections .entry)) (now (settings .entry)) (now (times .entry)) slips) (named.Report event at) r (now (ring .exit)) trial (state (stage.Open (now (plan .entry))) (now (tracks .entry)) (now (runs .exit)) (now (connections .entry)) (now (settings .entry)) (now (times .exit)) slips)) ⌝ }
 {
-    match plan.report(tracks, runs, connections, settings, times, ring, counts, sums, befores, floors, arcs, tables, marks, event, at) {
+    match plan.report(
+        tracks,
+        runs,
+        connections,
+        settings,
+        times,
+        ring,
+        counts,
+        sums,
+        befores,
+        floors,
+        arcs,
+        tables,
+        marks,
+        event,
+        at,
+    ) {
         Ok(()) => Ok(Answer::Done),
         Err(fault) => Err(CallFault::Plan(fault)),
     }
@@ -83,7 +99,24 @@ pub(crate) fn open_order<K: Kind>(
     requires listed { ⌜ Listed (lengths (length (now times)) (length (now ring)) (length (now counts)) (length (now sums)) (length (now befores)) (length (now floors)) (length (now arcs)) (length (now tables)) (length (now marks))) ⌝ }
     ensures { λ r. ⌜ ((l : Sizes) (slips : List (Option Token)) (trial : List K) → AllListed l → Step (K·Kind .time) l (state (stage.Open (now (plan .entry))) (now (tracks .entry)) (now (runs .entry)) (now (connections .entry)) (now (settings .entry)) (now (times .entry)) slips) (named.Turn (way.Order i j) setting) r (now (ring .exit)) trial (state (stage.Open (now (plan .entry))) (now (tracks .entry)) (now (runs .entry)) (now (connections .entry)) (now (settings .exit)) (now (times .exit)) slips)) ⌝ }
 {
-    match plan.order(tracks, runs, connections, settings, times, ring, counts, sums, befores, floors, arcs, tables, marks, i, j, setting) {
+    match plan.order(
+        tracks,
+        runs,
+        connections,
+        settings,
+        times,
+        ring,
+        counts,
+        sums,
+        befores,
+        floors,
+        arcs,
+        tables,
+        marks,
+        i,
+        j,
+        setting,
+    ) {
         Ok(()) => Ok(Answer::Done),
         Err(fault) => Err(CallFault::Plan(fault)),
     }
@@ -112,7 +145,23 @@ pub(crate) fn open_connect<K: Kind>(
     requires listed { ⌜ Listed (lengths (length (now times)) (length (now ring)) (length (now counts)) (length (now sums)) (length (now befores)) (length (now floors)) (length (now arcs)) (length (now tables)) (length (now marks))) ⌝ }
     ensures { λ r. ⌜ ((l : Sizes) (slips : List (Option Token)) (trial : List K) → AllListed l → Step (K·Kind .time) l (state (stage.Open (now (plan .entry))) (now (tracks .entry)) (now (runs .entry)) (now (connections .entry)) (now (settings .entry)) (now (times .entry)) slips) (named.Turn (way.Connection c) setting) r (now (ring .exit)) trial (state (stage.Open (now (plan .entry))) (now (tracks .entry)) (now (runs .entry)) (now (connections .entry)) (now (settings .exit)) (now (times .exit)) slips)) ⌝ }
 {
-    match plan.connect(tracks, runs, connections, settings, times, ring, counts, sums, befores, floors, arcs, tables, marks, c, setting) {
+    match plan.connect(
+        tracks,
+        runs,
+        connections,
+        settings,
+        times,
+        ring,
+        counts,
+        sums,
+        befores,
+        floors,
+        arcs,
+        tables,
+        marks,
+        c,
+        setting,
+    ) {
         Ok(()) => Ok(Answer::Done),
         Err(fault) => Err(CallFault::Plan(fault)),
     }
@@ -143,7 +192,24 @@ pub(crate) fn open_trial<K: Kind>(
     requires listed { ⌜ Listed (lengths (length (now trial)) (length (now ring)) (length (now counts)) (length (now sums)) (length (now befores)) (length (now floors)) (length (now arcs)) (length (now tables)) (length (now marks))) ⌝ }
     ensures { λ r. ⌜ ((l : Sizes) (slips : List (Option Token)) → AllListed l → Step (K·Kind .time) l (state (stage.Open (now (plan .entry))) (now (tracks .entry)) (now (runs .entry)) (now (connections .entry)) (now (settings .entry)) (now (times .entry)) slips) (named.Trial switch setting) r (now (ring .exit)) (now (trial .exit)) (state (stage.Open (now (plan .entry))) (now (tracks .entry)) (now (runs .entry)) (now (connections .entry)) (now (settings .exit)) (now (times .entry)) slips)) ⌝ }
 {
-    match plan.trial(tracks, runs, connections, settings, times, trial, ring, counts, sums, befores, floors, arcs, tables, marks, switch, setting) {
+    match plan.trial(
+        tracks,
+        runs,
+        connections,
+        settings,
+        times,
+        trial,
+        ring,
+        counts,
+        sums,
+        befores,
+        floors,
+        arcs,
+        tables,
+        marks,
+        switch,
+        setting,
+    ) {
         Ok(cost) => Ok(Answer::Cost(cost)),
         Err(fault) => Err(CallFault::Plan(fault)),
     }
@@ -180,7 +246,23 @@ pub(crate) fn open_hold<K: Kind>(
         }
         return Err(CallFault::Plan(PlanFault::Already));
     }
-    match plan.hold(tracks, runs, connections, settings, times, ring, counts, sums, befores, floors, arcs, tables, marks, run, until) {
+    match plan.hold(
+        tracks,
+        runs,
+        connections,
+        settings,
+        times,
+        ring,
+        counts,
+        sums,
+        befores,
+        floors,
+        arcs,
+        tables,
+        marks,
+        run,
+        until,
+    ) {
         Ok(slip) => {
             put_slip(slips, run, slip);
             Ok(Answer::Done)
@@ -215,7 +297,22 @@ pub(crate) fn open_release<K: Kind>(
 {
     match pick_slip(slips, run) {
         None => Err(CallFault::Misuse),
-        Some(slip) => match plan.release(tracks, runs, connections, settings, times, ring, counts, sums, befores, floors, arcs, tables, marks, slip) {
+        Some(slip) => match plan.release(
+            tracks,
+            runs,
+            connections,
+            settings,
+            times,
+            ring,
+            counts,
+            sums,
+            befores,
+            floors,
+            arcs,
+            tables,
+            marks,
+            slip,
+        ) {
             Ok(()) => Ok(Answer::Done),
             Err(unreleased) => {
                 let Unreleased { slip, fault } = unreleased;
@@ -227,7 +324,15 @@ pub(crate) fn open_release<K: Kind>(
 }
 
 /// The time shown of an event.
-pub(crate) fn open_time<K: Kind>(plan: &Open, tracks: &[Track<K>], runs: &[Run<K>], connections: &[Connection<K>], settings: &[u8], times: &[K], event: u16) -> Result<Answer<K>, CallFault>
+pub(crate) fn open_time<K: Kind>(
+    plan: &Open,
+    tracks: &[Track<K>],
+    runs: &[Run<K>],
+    connections: &[Connection<K>],
+    settings: &[u8],
+    times: &[K],
+    event: u16,
+) -> Result<Answer<K>, CallFault>
     requires records { ⌜ RecordsListed (open-memory (now plan) (now tracks) (now runs) (now connections) (now settings)) ⌝ }
     requires shown { ⌜ length (now times) ≡ 1024 ⌝ }
     ensures { λ r. ⌜ ((l : Sizes) (slips : List (Option Token)) (ring : List ℕ) (trial : List K) → AllListed l → Step (K·Kind .time) l (state (stage.Open (now (plan .entry))) (now (tracks .entry)) (now (runs .entry)) (now (connections .entry)) (now (settings .entry)) (now (times .entry)) slips) (named.Time event) r ring trial (state (stage.Open (now (plan .entry))) (now (tracks .entry)) (now (runs .entry)) (now (connections .entry)) (now (settings .entry)) (now (times .entry)) slips)) ⌝ }
@@ -239,7 +344,14 @@ pub(crate) fn open_time<K: Kind>(plan: &Open, tracks: &[Track<K>], runs: &[Run<K
 }
 
 /// The cost of the times shown.
-pub(crate) fn open_cost<K: Kind>(plan: &Open, tracks: &[Track<K>], runs: &[Run<K>], connections: &[Connection<K>], settings: &[u8], times: &[K]) -> Result<Answer<K>, CallFault>
+pub(crate) fn open_cost<K: Kind>(
+    plan: &Open,
+    tracks: &[Track<K>],
+    runs: &[Run<K>],
+    connections: &[Connection<K>],
+    settings: &[u8],
+    times: &[K],
+) -> Result<Answer<K>, CallFault>
     requires records { ⌜ RecordsListed (open-memory (now plan) (now tracks) (now runs) (now connections) (now settings)) ⌝ }
     requires shown { ⌜ length (now times) ≡ 1024 ⌝ }
     ensures { λ r. ⌜ ((l : Sizes) (slips : List (Option Token)) (ring : List ℕ) (trial : List K) → AllListed l → Step (K·Kind .time) l (state (stage.Open (now (plan .entry))) (now (tracks .entry)) (now (runs .entry)) (now (connections .entry)) (now (settings .entry)) (now (times .entry)) slips) named.Cost r ring trial (state (stage.Open (now (plan .entry))) (now (tracks .entry)) (now (runs .entry)) (now (connections .entry)) (now (settings .entry)) (now (times .entry)) slips)) ⌝ }
@@ -251,7 +363,15 @@ pub(crate) fn open_cost<K: Kind>(plan: &Open, tracks: &[Track<K>], runs: &[Run<K
 }
 
 /// The setting of an order or a connection in an open plan.
-pub(crate) fn open_setting<K: Kind>(plan: &Open, tracks: &[Track<K>], runs: &[Run<K>], connections: &[Connection<K>], settings: &[u8], times: &[K], switch: Switch) -> Result<Answer<K>, CallFault>
+pub(crate) fn open_setting<K: Kind>(
+    plan: &Open,
+    tracks: &[Track<K>],
+    runs: &[Run<K>],
+    connections: &[Connection<K>],
+    settings: &[u8],
+    times: &[K],
+    switch: Switch,
+) -> Result<Answer<K>, CallFault>
     requires records { ⌜ RecordsListed (open-memory (now plan) (now tracks) (now runs) (now connections) (now settings)) ⌝ }
     requires shown { ⌜ length (now times) ≡ 1024 ⌝ }
     ensures { λ r. ⌜ ((l : Sizes) (slips : List (Option Token)) (ring : List ℕ) (trial : List K) → AllListed l → Step (K·Kind .time) l (state (stage.Open (now (plan .entry))) (now (tracks .entry)) (now (runs .entry)) (now (connections .entry)) (now (settings .entry)) (now (times .entry)) slips) (named.Setting switch) r ring trial (state (stage.Open (now (plan .entry))) (now (tracks .entry)) (now (runs .entry)) (now (connections .entry)) (now (settings .entry)) (now (times .entry)) slips)) ⌝ }

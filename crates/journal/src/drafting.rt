@@ -119,7 +119,19 @@ pub(crate) fn draft_open<K: Kind>(
     ensures { λ r. ⌜ ((l : Sizes) (slips : List (Option Slip)) (trial : List K) → AllListed l → Step (K·Kind .time) l (state (stage.Draft draft) (now (tracks .entry)) (now (runs .entry)) (now (connections .entry)) (now (settings .entry)) (now (times .entry)) slips) named.Open (r .1) (now (ring .exit)) trial (state (r .0) (now (tracks .entry)) (now (runs .entry)) (now (connections .entry)) (now (settings .entry)) (now (times .exit)) slips)) ⌝ }
 {
     match draft.open(
-        tracks, runs, connections, settings, times, ring, counts, sums, befores, floors, arcs, tables, marks,
+        tracks,
+        runs,
+        connections,
+        settings,
+        times,
+        ring,
+        counts,
+        sums,
+        befores,
+        floors,
+        arcs,
+        tables,
+        marks,
     ) {
         Ok(open) => (Plan::Open(open), Ok(Answer::Done)),
         Err(unopened) => {
@@ -130,7 +142,14 @@ pub(crate) fn draft_open<K: Kind>(
 }
 
 /// The setting of an order or a connection in a draft.
-pub(crate) fn draft_setting<K: Kind>(draft: &Draft, tracks: &[Track<K>], runs: &[Run<K>], connections: &[Connection<K>], settings: &[u8], switch: Switch) -> Result<Answer<K>, CallFault>
+pub(crate) fn draft_setting<K: Kind>(
+    draft: &Draft,
+    tracks: &[Track<K>],
+    runs: &[Run<K>],
+    connections: &[Connection<K>],
+    settings: &[u8],
+    switch: Switch,
+) -> Result<Answer<K>, CallFault>
     requires { ⌜ RecordsListed (draft-memory (now draft) (now tracks) (now runs) (now connections) (now settings)) ⌝ }
     ensures { λ r. ⌜ ((l : Sizes) (times : List K) (slips : List (Option Slip)) (ring : List ℕ) (trial : List K) → AllListed l → Step (K·Kind .time) l (state (stage.Draft (now (draft .entry))) (now (tracks .entry)) (now (runs .entry)) (now (connections .entry)) (now (settings .entry)) times slips) (named.Setting switch) r ring trial (state (stage.Draft (now (draft .entry))) (now (tracks .entry)) (now (runs .entry)) (now (connections .entry)) (now (settings .entry)) times slips)) ⌝ }
 {

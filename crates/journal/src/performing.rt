@@ -77,7 +77,14 @@ fn in_draft<K: Kind>(
             (Plan::Draft(draft), reply)
         }
         Call::Connection { connection } => {
-            let reply = draft_connection(&mut draft, tracks, runs, connections, settings, connection);
+            let reply = draft_connection(
+                &mut draft,
+                tracks,
+                runs,
+                connections,
+                settings,
+                connection,
+            );
             (Plan::Draft(draft), reply)
         }
         Call::Preset { switch, setting } => {
@@ -88,12 +95,33 @@ fn in_draft<K: Kind>(
             let reply = draft_setting(&draft, tracks, runs, connections, settings, switch);
             (Plan::Draft(draft), reply)
         }
-        Call::Open => draft_open(draft, tracks, runs, connections, settings, times, ring, counts, sums, befores, floors, arcs, tables, marks),
+        Call::Open => draft_open(
+            draft,
+            tracks,
+            runs,
+            connections,
+            settings,
+            times,
+            ring,
+            counts,
+            sums,
+            befores,
+            floors,
+            arcs,
+            tables,
+            marks,
+        ),
         Call::Report { event: _, at: _ } => (Plan::Draft(draft), Err(CallFault::Misuse)),
-        Call::Turn { switch: _, setting: _ } => (Plan::Draft(draft), Err(CallFault::Misuse)),
+        Call::Turn {
+            switch: _,
+            setting: _,
+        } => (Plan::Draft(draft), Err(CallFault::Misuse)),
         Call::Hold { run: _, until: _ } => (Plan::Draft(draft), Err(CallFault::Misuse)),
         Call::Release { run: _ } => (Plan::Draft(draft), Err(CallFault::Misuse)),
-        Call::Trial { switch: _, setting: _ } => (Plan::Draft(draft), Err(CallFault::Misuse)),
+        Call::Trial {
+            switch: _,
+            setting: _,
+        } => (Plan::Draft(draft), Err(CallFault::Misuse)),
         Call::Time { event: _ } => (Plan::Draft(draft), Err(CallFault::Misuse)),
         Call::Cost => (Plan::Draft(draft), Err(CallFault::Misuse)),
     }
@@ -123,21 +151,137 @@ fn in_open<K: Kind>(
     ensures { λ r. ⌜ Step (K·Kind .time) (sizes (length (now (tracks .entry))) (length (now (runs .entry))) (length (now (connections .entry))) (length (now (settings .entry))) (length (now (trial .entry))) (length (now (slips .entry))) (lengths (length (now (times .entry))) (length (now (ring .entry))) (length (now (counts .entry))) (length (now (sums .entry))) (length (now (befores .entry))) (length (now (floors .entry))) (length (now (arcs .entry))) (length (now (tables .entry))) (length (now (marks .entry))))) (state (stage.Open (now (plan .entry))) (now (tracks .entry)) (now (runs .entry)) (now (connections .entry)) (now (settings .entry)) (now (times .entry)) (now (slips .entry))) call r (now (ring .exit)) (now (trial .exit)) (state (stage.Open (now (plan .entry))) (now (tracks .exit)) (now (runs .exit)) (now (connections .exit)) (now (settings .exit)) (now (times .exit)) (now (slips .exit))) ⌝ }
 {
     match call {
-        Call::Report { event, at } => open_report(plan, tracks, runs, connections, settings, times, ring, counts, sums, befores, floors, arcs, tables, marks, event, at),
+        Call::Report { event, at } => open_report(
+            plan,
+            tracks,
+            runs,
+            connections,
+            settings,
+            times,
+            ring,
+            counts,
+            sums,
+            befores,
+            floors,
+            arcs,
+            tables,
+            marks,
+            event,
+            at,
+        ),
         Call::Turn { switch, setting } => match switch {
-            Switch::Order { i, j } => open_order(plan, tracks, runs, connections, settings, times, ring, counts, sums, befores, floors, arcs, tables, marks, i, j, setting),
-            Switch::Connection { c } => open_connect(plan, tracks, runs, connections, settings, times, ring, counts, sums, befores, floors, arcs, tables, marks, c, setting),
+            Switch::Order { i, j } => open_order(
+                plan,
+                tracks,
+                runs,
+                connections,
+                settings,
+                times,
+                ring,
+                counts,
+                sums,
+                befores,
+                floors,
+                arcs,
+                tables,
+                marks,
+                i,
+                j,
+                setting,
+            ),
+            Switch::Connection { c } => open_connect(
+                plan,
+                tracks,
+                runs,
+                connections,
+                settings,
+                times,
+                ring,
+                counts,
+                sums,
+                befores,
+                floors,
+                arcs,
+                tables,
+                marks,
+                c,
+                setting,
+            ),
         },
-        Call::Hold { run, until } => open_hold(plan, tracks, runs, connections, settings, times, ring, counts, sums, befores, floors, arcs, tables, marks, slips, run, until),
-        Call::Release { run } => open_release(plan, tracks, runs, connections, settings, times, ring, counts, sums, befores, floors, arcs, tables, marks, slips, run),
-        Call::Trial { switch, setting } => open_trial(plan, tracks, runs, connections, settings, times, trial, ring, counts, sums, befores, floors, arcs, tables, marks, switch, setting),
+        Call::Hold { run, until } => open_hold(
+            plan,
+            tracks,
+            runs,
+            connections,
+            settings,
+            times,
+            ring,
+            counts,
+            sums,
+            befores,
+            floors,
+            arcs,
+            tables,
+            marks,
+            slips,
+            run,
+            until,
+        ),
+        Call::Release { run } => open_release(
+            plan,
+            tracks,
+            runs,
+            connections,
+            settings,
+            times,
+            ring,
+            counts,
+            sums,
+            befores,
+            floors,
+            arcs,
+            tables,
+            marks,
+            slips,
+            run,
+        ),
+        Call::Trial { switch, setting } => open_trial(
+            plan,
+            tracks,
+            runs,
+            connections,
+            settings,
+            times,
+            trial,
+            ring,
+            counts,
+            sums,
+            befores,
+            floors,
+            arcs,
+            tables,
+            marks,
+            switch,
+            setting,
+        ),
         Call::Time { event } => open_time(plan, tracks, runs, connections, settings, times, event),
-        Call::Setting { switch } => open_setting(plan, tracks, runs, connections, settings, times, switch),
+        Call::Setting { switch } => open_setting(
+            plan,
+            tracks,
+            runs,
+            connections,
+            settings,
+            times,
+            switch,
+        ),
         Call::Cost => open_cost(plan, tracks, runs, connections, settings, times),
         Call::Track { track: _ } => Err(CallFault::Misuse),
         Call::Run { run: _ } => Err(CallFault::Misuse),
         Call::Connection { connection: _ } => Err(CallFault::Misuse),
-        Call::Preset { switch: _, setting: _ } => Err(CallFault::Misuse),
+        Call::Preset {
+            switch: _,
+            setting: _,
+        } => Err(CallFault::Misuse),
         Call::Open => Err(CallFault::Misuse),
     }
 }
@@ -178,10 +322,24 @@ fn work_listed(
 }
 
 // Whether every memory has its listed length.
-fn all_listed(tracks: usize, runs: usize, connections: usize, settings: usize, trial: usize, slips: usize, work: bool) -> bool
+fn all_listed(
+    tracks: usize,
+    runs: usize,
+    connections: usize,
+    settings: usize,
+    trial: usize,
+    slips: usize,
+    work: bool,
+) -> bool
     ensures { λ r. ⌜ ((w : Lengths) → Decides work (Listed w) → Decides r (AllListed (sizes tracks runs connections settings trial slips w))) ⌝ }
 {
-    tracks == 64 && runs == 512 && connections == 512 && settings == 4_608 && trial == 1_024 && slips == 512 && work
+    tracks == 64
+        && runs == 512
+        && connections == 512
+        && settings == 4_608
+        && trial == 1_024
+        && slips == 512
+        && work
 }
 
 // Whether the plan's state does not have the call, or there is no slip at hand.
@@ -192,10 +350,16 @@ fn misused<K: Kind>(is_open: bool, slips: &[Option<Slip>], call: Call<K>) -> boo
         Call::Track { track: _ } => is_open,
         Call::Run { run: _ } => is_open,
         Call::Connection { connection: _ } => is_open,
-        Call::Preset { switch: _, setting: _ } => is_open,
+        Call::Preset {
+            switch: _,
+            setting: _,
+        } => is_open,
         Call::Open => is_open,
         Call::Report { event: _, at: _ } => !is_open,
-        Call::Turn { switch: _, setting: _ } => !is_open,
+        Call::Turn {
+            switch: _,
+            setting: _,
+        } => !is_open,
         Call::Hold { run: _, until: _ } => !is_open,
         Call::Release { run } => {
             if is_open {
@@ -204,7 +368,10 @@ fn misused<K: Kind>(is_open: bool, slips: &[Option<Slip>], call: Call<K>) -> boo
                 true
             }
         }
-        Call::Trial { switch: _, setting: _ } => !is_open,
+        Call::Trial {
+            switch: _,
+            setting: _,
+        } => !is_open,
         Call::Time { event: _ } => !is_open,
         Call::Setting { switch: _ } => false,
         Call::Cost => !is_open,
@@ -244,7 +411,15 @@ pub fn perform<K: Kind>(
         tables.len(),
         marks.len(),
     );
-    if !all_listed(tracks.len(), runs.len(), connections.len(), settings.len(), trial.len(), slips.len(), work) {
+    if !all_listed(
+        tracks.len(),
+        runs.len(),
+        connections.len(),
+        settings.len(),
+        trial.len(),
+        slips.len(),
+        work,
+    ) {
         let is_open = opened(&plan);
         if misused(is_open, slips, call) {
             return (plan, Err(CallFault::Misuse));
@@ -252,9 +427,44 @@ pub fn perform<K: Kind>(
         return (plan, Err(CallFault::Plan(PlanFault::Length)));
     }
     match plan {
-        Plan::Draft(draft) => in_draft(draft, tracks, runs, connections, settings, times, trial, ring, counts, sums, befores, floors, arcs, tables, marks, call),
+        Plan::Draft(draft) => in_draft(
+            draft,
+            tracks,
+            runs,
+            connections,
+            settings,
+            times,
+            trial,
+            ring,
+            counts,
+            sums,
+            befores,
+            floors,
+            arcs,
+            tables,
+            marks,
+            call,
+        ),
         Plan::Open(open) => {
-            let reply = in_open(&open, tracks, runs, connections, settings, times, trial, ring, counts, sums, befores, floors, arcs, tables, marks, slips, call);
+            let reply = in_open(
+                &open,
+                tracks,
+                runs,
+                connections,
+                settings,
+                times,
+                trial,
+                ring,
+                counts,
+                sums,
+                befores,
+                floors,
+                arcs,
+                tables,
+                marks,
+                slips,
+                call,
+            );
             (Plan::Open(open), reply)
         }
     }

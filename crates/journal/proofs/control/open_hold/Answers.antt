@@ -57,9 +57,9 @@ returns-in-Ok g c =
     let t = g .K·Kind .time in
     let a = c .args in
     λ l trial listed B st. (
-      let r = hold-step t (g .K·Kind·met .laws) (a .plan .now) (a .tracks .now) (a .runs .now) (a .connections .now) (a .settings .now) (a .times .now) (a .slips .now) B st (c .pre .records) (c .pre .listed .times) (c .pre .slots) l listed (a .ring .now) (c .hold .last .ring) trial _ (c .pre .listed) (limits-kept t) (a .run) (a .until) (c .hold .last .times) (c .hold .last .runs) (c .in-Ok .slip) (c .in-Ok .ensures tt .reckons) (c .in-Ok .ensures tt .runs) (c .in-Ok .ensures tt .slip) in
-      let P : List (Option Slip) → Type 0 = λ ss. Stands t (taken t B (call.Hold (a .run) (a .until))) (state (stage.Open (a .plan .now)) (a .tracks .now) (c .hold .last .runs) (a .connections .now) (a .settings .now) (c .hold .last .times) ss) in
-      (r .0, subst P (sym (c .put-slip .ensures)) (r .1)))
+    let r = hold-step t (g .K·Kind·met .laws) (a .plan .now) (a .tracks .now) (a .runs .now) (a .connections .now) (a .settings .now) (a .times .now) (a .slips .now) B st (c .pre .records) (c .pre .listed .times) (c .pre .slots) l listed (a .ring .now) (c .hold .last .ring) trial _ (c .pre .listed) (limits-kept t) (a .run) (a .until) (c .hold .last .times) (c .hold .last .runs) (c .in-Ok .slip) (c .in-Ok .ensures tt .reckons) (c .in-Ok .ensures tt .runs) (c .in-Ok .ensures tt .slip) in
+    let P : List (Option Slip) → Type 0 = λ ss. Stands t (taken t B (call.Hold (a .run) (a .until))) (state (stage.Open (a .plan .now)) (a .tracks .now) (c .hold .last .runs) (a .connections .now) (a .settings .now) (c .hold .last .times) ss) in
+    (r .0, subst P (sym (c .put-slip .ensures)) (r .1)))
 
 pub returns-in-Err : need.returns-in-Err
 returns-in-Err g c =
@@ -67,6 +67,6 @@ returns-in-Err g c =
     let a = c .args in
     let k = c .in-Err .ensures tt .reckons in
     λ l trial listed B st. (
-      let P : List (Run (g .K .Denot)) → Type 0 = λ rs. Stands t B (state (stage.Open (a .plan .now)) (a .tracks .now) rs (a .connections .now) (a .settings .now) (a .times .now) (a .slips .now)) in
-      let Q : List (g .K .Denot) → Type 0 = λ ts. Stands t B (state (stage.Open (a .plan .now)) (a .tracks .now) (c .hold .last .runs) (a .connections .now) (a .settings .now) ts (a .slips .now)) in
-      (hold-refused t (g .K·Kind·met .laws) (a .plan .now) (a .tracks .now) (a .runs .now) (a .connections .now) (a .settings .now) (a .times .now) (a .slips .now) B st (c .pre .records) (c .pre .listed .times) (c .pre .slots) l listed (a .ring .now) (c .hold .last .ring) trial _ (c .pre .listed) (limits-kept t) (a .run) (a .until) (c .in-Err .fault) (c .hold .last .times) k, subst Q (sym (k .shows)) (subst P (sym (c .in-Err .ensures tt .runs)) st)))
+    let P : List (Run (g .K .Denot)) → Type 0 = λ rs. Stands t B (state (stage.Open (a .plan .now)) (a .tracks .now) rs (a .connections .now) (a .settings .now) (a .times .now) (a .slips .now)) in
+    let Q : List (g .K .Denot) → Type 0 = λ ts. Stands t B (state (stage.Open (a .plan .now)) (a .tracks .now) (c .hold .last .runs) (a .connections .now) (a .settings .now) ts (a .slips .now)) in
+    (hold-refused t (g .K·Kind·met .laws) (a .plan .now) (a .tracks .now) (a .runs .now) (a .connections .now) (a .settings .now) (a .times .now) (a .slips .now) B st (c .pre .records) (c .pre .listed .times) (c .pre .slots) l listed (a .ring .now) (c .hold .last .ring) trial _ (c .pre .listed) (limits-kept t) (a .run) (a .until) (c .in-Err .fault) (c .hold .last .times) k, subst Q (sym (k .shows)) (subst P (sym (c .in-Err .ensures tt .runs)) st)))

@@ -34,7 +34,7 @@ returns-in-Err g c =
     let own : Register (g .K .Denot) → List Row = λ R. turning-rows t R (switch.Order (a .i) (a .j)) (a .setting) in
     let k = c .in-Err .ensures tt .reckons in
     λ l slips trial listed B st.
-      let r = control-refused t (g .K·Kind·met .laws) (a .plan .now) (a .tracks .now) (a .runs .now) (a .connections .now) (a .settings .now) (a .times .now) slips B st (c .pre .records) (c .pre .listed .times) l listed (a .ring .now) (c .order .last .ring) trial _ (c .pre .listed) (limits-kept t) (call.Turn (switch.Order (a .i) (a .j)) (a .setting)) own (register-of t (switch-memory t m (switch.Order (a .i) (a .j)) (a .setting))) (set-switch (B .register) (switch.Order (a .i) (a .j)) (a .setting)) refl (turning-match t (register-of t m) (B .register) (st .same) (switch.Order (a .i) (a .j)) (a .setting)) (turning-under t (register-of t m) (switch.Order (a .i) (a .j)) (a .setting)) (turned-same t (g .K·Kind·met .laws) (a .plan .now) (a .tracks .now) (a .runs .now) (a .connections .now) (a .settings .now) (a .times .now) slips B st (c .pre .records) (c .pre .listed .times) l listed (a .ring .now) (c .order .last .ring) trial _ (c .pre .listed) (limits-kept t) (switch.Order (a .i) (a .j)) (a .setting)) (Unit {0}) (c .in-Err .fault) (a .times .now) (c .order .last .times) k in
-      let P : List ℕ → Type 0 = λ bs. Stands t B (state (stage.Open (a .plan .now)) (a .tracks .now) (a .runs .now) (a .connections .now) bs (a .times .now) slips) in
-      let Q : List (g .K .Denot) → Type 0 = λ ts. Stands t B (state (stage.Open (a .plan .now)) (a .tracks .now) (a .runs .now) (a .connections .now) (c .order .last .settings) ts slips) in
-      (record { answers = r .0; carried = tt; named = r .1 }, subst Q (sym (k .shows)) (subst P (sym (c .in-Err .ensures tt .settings)) st))
+    let r = control-refused t (g .K·Kind·met .laws) (a .plan .now) (a .tracks .now) (a .runs .now) (a .connections .now) (a .settings .now) (a .times .now) slips B st (c .pre .records) (c .pre .listed .times) l listed (a .ring .now) (c .order .last .ring) trial _ (c .pre .listed) (limits-kept t) (call.Turn (switch.Order (a .i) (a .j)) (a .setting)) own (register-of t (switch-memory t m (switch.Order (a .i) (a .j)) (a .setting))) (set-switch (B .register) (switch.Order (a .i) (a .j)) (a .setting)) refl (turning-match t (register-of t m) (B .register) (st .same) (switch.Order (a .i) (a .j)) (a .setting)) (turning-under t (register-of t m) (switch.Order (a .i) (a .j)) (a .setting)) (turned-same t (g .K·Kind·met .laws) (a .plan .now) (a .tracks .now) (a .runs .now) (a .connections .now) (a .settings .now) (a .times .now) slips B st (c .pre .records) (c .pre .listed .times) l listed (a .ring .now) (c .order .last .ring) trial _ (c .pre .listed) (limits-kept t) (switch.Order (a .i) (a .j)) (a .setting)) (Unit {0}) (c .in-Err .fault) (a .times .now) (c .order .last .times) k in
+    let P : List ℕ → Type 0 = λ bs. Stands t B (state (stage.Open (a .plan .now)) (a .tracks .now) (a .runs .now) (a .connections .now) bs (a .times .now) slips) in
+    let Q : List (g .K .Denot) → Type 0 = λ ts. Stands t B (state (stage.Open (a .plan .now)) (a .tracks .now) (a .runs .now) (a .connections .now) (c .order .last .settings) ts slips) in
+    (record { answers = r .0; carried = tt; named = r .1 }, subst Q (sym (k .shows)) (subst P (sym (c .in-Err .ensures tt .settings)) st))

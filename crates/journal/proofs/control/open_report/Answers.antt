@@ -34,7 +34,7 @@ returns-in-Err g c =
     let own : Register (g .K .Denot) → List Row = λ R. report-rows t R (a .event) (a .at) in
     let k = c .in-Err .ensures tt .reckons in
     λ l slips trial listed B st.
-      let r = control-refused t (g .K·Kind·met .laws) (a .plan .now) (a .tracks .now) (a .runs .now) (a .connections .now) (a .settings .now) (a .times .now) slips B st (c .pre .records) (c .pre .listed .times) l listed (a .ring .now) (c .report .last .ring) trial _ (c .pre .listed) (limits-kept t) (call.Report (a .event) (a .at)) own (register-of t (report-memory t m (a .event) (a .at))) (report t (B .register) (a .event) (a .at)) refl (report-match t (register-of t m) (B .register) (st .same) (a .event) (a .at)) (report-under t (register-of t m) (a .event) (a .at)) (reported-same t (g .K·Kind·met .laws) (a .plan .now) (a .tracks .now) (a .runs .now) (a .connections .now) (a .settings .now) (a .times .now) slips B st (c .pre .records) (c .pre .listed .times) l listed (a .ring .now) (c .report .last .ring) trial _ (c .pre .listed) (limits-kept t) (a .event) (a .at)) (Unit {0}) (c .in-Err .fault) (a .times .now) (c .report .last .times) k in
-      let P : List (Run (g .K .Denot)) → Type 0 = λ rs. Stands t B (state (stage.Open (a .plan .now)) (a .tracks .now) rs (a .connections .now) (a .settings .now) (a .times .now) slips) in
-      let Q : List (g .K .Denot) → Type 0 = λ ts. Stands t B (state (stage.Open (a .plan .now)) (a .tracks .now) (c .report .last .runs) (a .connections .now) (a .settings .now) ts slips) in
-      (record { answers = r .0; carried = tt; named = r .1 }, subst Q (sym (k .shows)) (subst P (sym (c .in-Err .ensures tt .runs)) st))
+    let r = control-refused t (g .K·Kind·met .laws) (a .plan .now) (a .tracks .now) (a .runs .now) (a .connections .now) (a .settings .now) (a .times .now) slips B st (c .pre .records) (c .pre .listed .times) l listed (a .ring .now) (c .report .last .ring) trial _ (c .pre .listed) (limits-kept t) (call.Report (a .event) (a .at)) own (register-of t (report-memory t m (a .event) (a .at))) (report t (B .register) (a .event) (a .at)) refl (report-match t (register-of t m) (B .register) (st .same) (a .event) (a .at)) (report-under t (register-of t m) (a .event) (a .at)) (reported-same t (g .K·Kind·met .laws) (a .plan .now) (a .tracks .now) (a .runs .now) (a .connections .now) (a .settings .now) (a .times .now) slips B st (c .pre .records) (c .pre .listed .times) l listed (a .ring .now) (c .report .last .ring) trial _ (c .pre .listed) (limits-kept t) (a .event) (a .at)) (Unit {0}) (c .in-Err .fault) (a .times .now) (c .report .last .times) k in
+    let P : List (Run (g .K .Denot)) → Type 0 = λ rs. Stands t B (state (stage.Open (a .plan .now)) (a .tracks .now) rs (a .connections .now) (a .settings .now) (a .times .now) slips) in
+    let Q : List (g .K .Denot) → Type 0 = λ ts. Stands t B (state (stage.Open (a .plan .now)) (a .tracks .now) (c .report .last .runs) (a .connections .now) (a .settings .now) ts slips) in
+    (record { answers = r .0; carried = tt; named = r .1 }, subst Q (sym (k .shows)) (subst P (sym (c .in-Err .ensures tt .runs)) st))

@@ -34,6 +34,6 @@ returns-in-Err g c =
     let own : Register (g .K .Denot) → List Row = λ R. turning-rows t R (a .switch) (a .setting) in
     let k = c .in-Err .ensures tt .reckons in
     λ l slips listed B st.
-      let r = control-refused t (g .K·Kind·met .laws) (a .plan .now) (a .tracks .now) (a .runs .now) (a .connections .now) (a .settings .now) (a .times .now) slips B st (c .pre .records) (c .pre .shown) l listed (a .ring .now) (c .trial .last .ring) (c .trial .last .trial) _ (c .pre .listed) (limits-kept t) (call.Trial (a .switch) (a .setting)) own (register-of t (switch-memory t m (a .switch) (a .setting))) (set-switch (B .register) (a .switch) (a .setting)) refl (turning-match t (register-of t m) (B .register) (st .same) (a .switch) (a .setting)) (turning-under t (register-of t m) (a .switch) (a .setting)) (turned-same t (g .K·Kind·met .laws) (a .plan .now) (a .tracks .now) (a .runs .now) (a .connections .now) (a .settings .now) (a .times .now) slips B st (c .pre .records) (c .pre .shown) l listed (a .ring .now) (c .trial .last .ring) (c .trial .last .trial) _ (c .pre .listed) (limits-kept t) (a .switch) (a .setting)) ℕ (c .in-Err .fault) (a .trial .now) (c .trial .last .trial) k in
-      let P : List ℕ → Type 0 = λ bs. Stands t B (state (stage.Open (a .plan .now)) (a .tracks .now) (a .runs .now) (a .connections .now) bs (a .times .now) slips) in
-      (record { answers = r .0; carried = tt; named = r .1 }, subst P (sym (c .in-Err .ensures tt .settings)) st)
+    let r = control-refused t (g .K·Kind·met .laws) (a .plan .now) (a .tracks .now) (a .runs .now) (a .connections .now) (a .settings .now) (a .times .now) slips B st (c .pre .records) (c .pre .shown) l listed (a .ring .now) (c .trial .last .ring) (c .trial .last .trial) _ (c .pre .listed) (limits-kept t) (call.Trial (a .switch) (a .setting)) own (register-of t (switch-memory t m (a .switch) (a .setting))) (set-switch (B .register) (a .switch) (a .setting)) refl (turning-match t (register-of t m) (B .register) (st .same) (a .switch) (a .setting)) (turning-under t (register-of t m) (a .switch) (a .setting)) (turned-same t (g .K·Kind·met .laws) (a .plan .now) (a .tracks .now) (a .runs .now) (a .connections .now) (a .settings .now) (a .times .now) slips B st (c .pre .records) (c .pre .shown) l listed (a .ring .now) (c .trial .last .ring) (c .trial .last .trial) _ (c .pre .listed) (limits-kept t) (a .switch) (a .setting)) ℕ (c .in-Err .fault) (a .trial .now) (c .trial .last .trial) k in
+    let P : List ℕ → Type 0 = λ bs. Stands t B (state (stage.Open (a .plan .now)) (a .tracks .now) (a .runs .now) (a .connections .now) bs (a .times .now) slips) in
+    (record { answers = r .0; carried = tt; named = r .1 }, subst P (sym (c .in-Err .ensures tt .settings)) st)

@@ -32,7 +32,7 @@ returns-in-Err g c =
     let writes = c .in-Err .ensures tt .writes in
     let own : Register (g .K .Denot) → List Row = λ R. connection-rows t R (a .connection) in
     λ l times slips ring trial listed B st.
-      let P : Draft → Type 0 = λ d. Stands t B (state (stage.Draft d) (a .tracks .now) (a .runs .now) (a .connections .now) (a .settings .now) times slips) in
-      let Q : List (Connection (g .K .Denot)) → Type 0 = λ cs. Stands t B (state (stage.Draft (c .connection .last .self)) (a .tracks .now) (a .runs .now) cs (a .settings .now) times slips) in
-      let R : List ℕ → Type 0 = λ bs. Stands t B (state (stage.Draft (c .connection .last .self)) (a .tracks .now) (a .runs .now) (c .connection .last .connections) bs times slips) in
-      (draft-refused t (a .draft .now) (a .tracks .now) (a .runs .now) (a .connections .now) (a .settings .now) times slips B st l listed (c .pre) ring trial (call.Connection (a .connection)) own refl (rows-shared t (register-of t (draft-memory (a .draft .now) (a .tracks .now) (a .runs .now) (a .connections .now) (a .settings .now))) (B .register) (st .same) .connection (a .connection)) (connection-under t (register-of t (draft-memory (a .draft .now) (a .tracks .now) (a .runs .now) (a .connections .now) (a .settings .now))) (a .connection)) (c .in-Err .fault) (c .in-Err .ensures tt .rows), subst R (sym (writes .1 .0)) (subst Q (sym (writes .0)) (subst P (sym (writes .1 .1)) st)))
+    let P : Draft → Type 0 = λ d. Stands t B (state (stage.Draft d) (a .tracks .now) (a .runs .now) (a .connections .now) (a .settings .now) times slips) in
+    let Q : List (Connection (g .K .Denot)) → Type 0 = λ cs. Stands t B (state (stage.Draft (c .connection .last .self)) (a .tracks .now) (a .runs .now) cs (a .settings .now) times slips) in
+    let R : List ℕ → Type 0 = λ bs. Stands t B (state (stage.Draft (c .connection .last .self)) (a .tracks .now) (a .runs .now) (c .connection .last .connections) bs times slips) in
+    (draft-refused t (a .draft .now) (a .tracks .now) (a .runs .now) (a .connections .now) (a .settings .now) times slips B st l listed (c .pre) ring trial (call.Connection (a .connection)) own refl (rows-shared t (register-of t (draft-memory (a .draft .now) (a .tracks .now) (a .runs .now) (a .connections .now) (a .settings .now))) (B .register) (st .same) .connection (a .connection)) (connection-under t (register-of t (draft-memory (a .draft .now) (a .tracks .now) (a .runs .now) (a .connections .now) (a .settings .now))) (a .connection)) (c .in-Err .fault) (c .in-Err .ensures tt .rows), subst R (sym (writes .1 .0)) (subst Q (sym (writes .0)) (subst P (sym (writes .1 .1)) st)))

@@ -32,5 +32,5 @@ returns-in-Err g c =
     let writes = c .in-Err .ensures tt .writes in
     let own : Register (g .K .Denot) → List Row = λ R. setting-rows t R (a .switch) (a .setting) in
     λ l times slips ring trial listed B st.
-      let R : List ℕ → Type 0 = λ bs. Stands t B (state (stage.Draft (a .draft .now)) (a .tracks .now) (a .runs .now) (a .connections .now) bs times slips) in
-      (draft-refused t (a .draft .now) (a .tracks .now) (a .runs .now) (a .connections .now) (a .settings .now) times slips B st l listed (c .pre) ring trial (call.Preset (a .switch) (a .setting)) own refl (rows-shared t (register-of t (draft-memory (a .draft .now) (a .tracks .now) (a .runs .now) (a .connections .now) (a .settings .now))) (B .register) (st .same) .setting (a .switch) (a .setting)) (setting-under t (register-of t (draft-memory (a .draft .now) (a .tracks .now) (a .runs .now) (a .connections .now) (a .settings .now))) (a .switch) (a .setting)) (c .in-Err .fault) (c .in-Err .ensures tt .rows), subst R (sym writes) st)
+    let R : List ℕ → Type 0 = λ bs. Stands t B (state (stage.Draft (a .draft .now)) (a .tracks .now) (a .runs .now) (a .connections .now) bs times slips) in
+    (draft-refused t (a .draft .now) (a .tracks .now) (a .runs .now) (a .connections .now) (a .settings .now) times slips B st l listed (c .pre) ring trial (call.Preset (a .switch) (a .setting)) own refl (rows-shared t (register-of t (draft-memory (a .draft .now) (a .tracks .now) (a .runs .now) (a .connections .now) (a .settings .now))) (B .register) (st .same) .setting (a .switch) (a .setting)) (setting-under t (register-of t (draft-memory (a .draft .now) (a .tracks .now) (a .runs .now) (a .connections .now) (a .settings .now))) (a .switch) (a .setting)) (c .in-Err .fault) (c .in-Err .ensures tt .rows), subst R (sym writes) st)

@@ -32,7 +32,7 @@ returns-in-Err g c =
     let writes = c .in-Err .ensures tt .writes in
     let own : Register (g .K .Denot) → List Row = λ R. run-rows t R (a .run) in
     λ l times slips ring trial listed B st.
-      let P : Draft → Type 0 = λ d. Stands t B (state (stage.Draft d) (a .tracks .now) (a .runs .now) (a .connections .now) (a .settings .now) times slips) in
-      let Q : List (Run (g .K .Denot)) → Type 0 = λ rs. Stands t B (state (stage.Draft (c .run .last .self)) (a .tracks .now) rs (a .connections .now) (a .settings .now) times slips) in
-      let R : List ℕ → Type 0 = λ bs. Stands t B (state (stage.Draft (c .run .last .self)) (a .tracks .now) (c .run .last .runs) (a .connections .now) bs times slips) in
-      (draft-refused t (a .draft .now) (a .tracks .now) (a .runs .now) (a .connections .now) (a .settings .now) times slips B st l listed (c .pre) ring trial (call.Run (a .run)) own refl (rows-shared t (register-of t (draft-memory (a .draft .now) (a .tracks .now) (a .runs .now) (a .connections .now) (a .settings .now))) (B .register) (st .same) .run (a .run)) (run-under t (register-of t (draft-memory (a .draft .now) (a .tracks .now) (a .runs .now) (a .connections .now) (a .settings .now))) (a .run)) (c .in-Err .fault) (c .in-Err .ensures tt .rows), subst R (sym (writes .1 .0)) (subst Q (sym (writes .0)) (subst P (sym (writes .1 .1)) st)))
+    let P : Draft → Type 0 = λ d. Stands t B (state (stage.Draft d) (a .tracks .now) (a .runs .now) (a .connections .now) (a .settings .now) times slips) in
+    let Q : List (Run (g .K .Denot)) → Type 0 = λ rs. Stands t B (state (stage.Draft (c .run .last .self)) (a .tracks .now) rs (a .connections .now) (a .settings .now) times slips) in
+    let R : List ℕ → Type 0 = λ bs. Stands t B (state (stage.Draft (c .run .last .self)) (a .tracks .now) (c .run .last .runs) (a .connections .now) bs times slips) in
+    (draft-refused t (a .draft .now) (a .tracks .now) (a .runs .now) (a .connections .now) (a .settings .now) times slips B st l listed (c .pre) ring trial (call.Run (a .run)) own refl (rows-shared t (register-of t (draft-memory (a .draft .now) (a .tracks .now) (a .runs .now) (a .connections .now) (a .settings .now))) (B .register) (st .same) .run (a .run)) (run-under t (register-of t (draft-memory (a .draft .now) (a .tracks .now) (a .runs .now) (a .connections .now) (a .settings .now))) (a .run)) (c .in-Err .fault) (c .in-Err .ensures tt .rows), subst R (sym (writes .1 .0)) (subst Q (sym (writes .0)) (subst P (sym (writes .1 .1)) st)))

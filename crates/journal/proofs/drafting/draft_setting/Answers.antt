@@ -18,11 +18,14 @@ returns-in-Ok g c =
     let a = c .args in
     let m = draft-memory (a .draft .now) (a .tracks .now) (a .runs .now) (a .connections .now) (a .settings .now) in
     let own = passed-back (draft-rows t m) (switch-rows t (register-of t m) (a .switch)) (c .in-Ok .ensures tt .rows) in
-    λ l times slips ring trial listed B st. (record {
-      answers = ((λ no-lists. no-lists listed), rows-shared t (register-of t m) (B .register) (st .same) .switch (a .switch) .passed own);
-      carried = ap answer.Setting (c .in-Ok .ensures tt .reads ∙ setting-same t (register-of t m) (B .register) (st .same) (a .switch) own);
-      named = tt;
-    }, st)
+    λ l times slips ring trial listed B st. (
+      record {
+        answers = ((λ no-lists. no-lists listed), rows-shared t (register-of t m) (B .register) (st .same) .switch (a .switch) .passed own);
+        carried = ap answer.Setting (c .in-Ok .ensures tt .reads ∙ setting-same t (register-of t m) (B .register) (st .same) (a .switch) own);
+        named = tt;
+      },
+      st,
+    )
 
 pub returns-in-Err : need.returns-in-Err
 returns-in-Err g c =
@@ -30,9 +33,11 @@ returns-in-Err g c =
     let a = c .args in
     let m = draft-memory (a .draft .now) (a .tracks .now) (a .runs .now) (a .connections .now) (a .settings .now) in
     λ l times slips ring trial listed B st. (
-      let own = first-behind (draft-rows t m) (switch-rows t (register-of t m) (a .switch)) _ _ (draft-passed t (a .draft .now) (a .tracks .now) (a .runs .now) (a .connections .now) (a .settings .now) times slips B st (c .pre)) (c .in-Err .ensures tt .rows) in
-      (record {
+    let own = first-behind (draft-rows t m) (switch-rows t (register-of t m) (a .switch)) _ _ (draft-passed t (a .draft .now) (a .tracks .now) (a .runs .now) (a .connections .now) (a .settings .now) times slips B st (c .pre)) (c .in-Err .ensures tt .rows) in (
+      record {
         answers = inr ((λ no-lists. no-lists listed), rows-shared t (register-of t m) (B .register) (st .same) .switch (a .switch) .first _ _ own);
         carried = tt;
         named = none-told t (B .register) ring (switch-rows t (register-of t m) (a .switch)) (switch-under t (register-of t m) (a .switch)) (c .in-Err .fault) own;
-      }, st))
+      },
+      st,
+    ))

@@ -32,6 +32,6 @@ returns-in-Err g c =
     let writes = c .in-Err .ensures tt .writes in
     let own : Register (g .K .Denot) → List Row = λ R. track-rows t R (a .track) in
     λ l times slips ring trial listed B st.
-      let P : Draft → Type 0 = λ d. Stands t B (state (stage.Draft d) (a .tracks .now) (a .runs .now) (a .connections .now) (a .settings .now) times slips) in
-      let Q : List (Track (g .K .Denot)) → Type 0 = λ ts. Stands t B (state (stage.Draft (c .track .last .self)) ts (a .runs .now) (a .connections .now) (a .settings .now) times slips) in
-      (draft-refused t (a .draft .now) (a .tracks .now) (a .runs .now) (a .connections .now) (a .settings .now) times slips B st l listed (c .pre) ring trial (call.Track (a .track)) own refl (rows-shared t (register-of t (draft-memory (a .draft .now) (a .tracks .now) (a .runs .now) (a .connections .now) (a .settings .now))) (B .register) (st .same) .track (a .track)) (track-under t (register-of t (draft-memory (a .draft .now) (a .tracks .now) (a .runs .now) (a .connections .now) (a .settings .now))) (a .track)) (c .in-Err .fault) (c .in-Err .ensures tt .rows), subst Q (sym (writes .0)) (subst P (sym (writes .1)) st))
+    let P : Draft → Type 0 = λ d. Stands t B (state (stage.Draft d) (a .tracks .now) (a .runs .now) (a .connections .now) (a .settings .now) times slips) in
+    let Q : List (Track (g .K .Denot)) → Type 0 = λ ts. Stands t B (state (stage.Draft (c .track .last .self)) ts (a .runs .now) (a .connections .now) (a .settings .now) times slips) in
+    (draft-refused t (a .draft .now) (a .tracks .now) (a .runs .now) (a .connections .now) (a .settings .now) times slips B st l listed (c .pre) ring trial (call.Track (a .track)) own refl (rows-shared t (register-of t (draft-memory (a .draft .now) (a .tracks .now) (a .runs .now) (a .connections .now) (a .settings .now))) (B .register) (st .same) .track (a .track)) (track-under t (register-of t (draft-memory (a .draft .now) (a .tracks .now) (a .runs .now) (a .connections .now) (a .settings .now))) (a .track)) (c .in-Err .fault) (c .in-Err .ensures tt .rows), subst Q (sym (writes .0)) (subst P (sym (writes .1)) st))

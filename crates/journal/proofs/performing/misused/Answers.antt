@@ -25,6 +25,7 @@ returns-then-is-open g c = λ l B eo es unlisted.
     let P : Call (g .K .Denot) → Type 0 = λ k. (not kept ≡ true → First (call-rows t l B k) 0 0) × (not kept ≡ false → First (call-rows t l B k) 1 0) in
     let slot : getD (B .slips) r false ≡ kept = ap (λ bs. getD bs r false) (sym es) ∙ getD-map (c .args .slips .now) r ∙ sym (c .kept-slip .ensures) in
     let yes-open : B .opened ≡ true = sym eo ∙ c .if-is-open .taken in
-    subst P (sym (c .in-Release .is))
-      ( (λ none. inr ((λ closed. false≢true (sym closed ∙ yes-open)), inl (slot ∙ not-true kept none, refl, refl)))
-      , (λ some. inr ((λ closed. false≢true (sym closed ∙ yes-open)), inr ((λ empty. false≢true (sym empty ∙ slot ∙ not-false kept some)), inl (unlisted, refl, refl)))) )
+    subst P (sym (c .in-Release .is)) (
+      (λ none. inr ((λ closed. false≢true (sym closed ∙ yes-open)), inl (slot ∙ not-true kept none, refl, refl))),
+      (λ some. inr ((λ closed. false≢true (sym closed ∙ yes-open)), inr ((λ empty. false≢true (sym empty ∙ slot ∙ not-false kept some)), inl (unlisted, refl, refl)))),
+    )
