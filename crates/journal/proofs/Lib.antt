@@ -7,3 +7,4 @@ pub mod Controls
 pub mod Holds
 pub mod Questions
 pub mod Journals
+pub mod Follows

@@ -6,6 +6,7 @@ mod drafting;
 mod lists;
 mod performing;
 mod slips;
+mod theorems;
 
 pub use calls::Answer;
 pub use calls::Call;
@@ -15,3 +16,5 @@ pub use calls::Plan;
 pub use lists::new_plan;
 pub use lists::perform_all;
 pub use performing::perform;
+pub use theorems::never_for_ring;
+pub use theorems::shown_costs_least;
