@@ -42,7 +42,7 @@ pub impl Written for Changes as ChangesWritten {
 }
 
 /// A number of an event.
-pub fn number(word: &str) -> Option<u16> {
+pub(crate) fn number(word: &str) -> Option<u16> {
     word.parse::<u16>().ok()
 }
 
@@ -56,7 +56,7 @@ pub enum Words<'a> {
 }
 
 /// The words of a line, which are parted by spaces or tabs.
-pub fn words_of(bytes: &[u8]) -> Words<'_> {
+pub(crate) fn words_of(bytes: &[u8]) -> Words<'_> {
     let Ok(line) = std::str::from_utf8(bytes) else {
         return Words::Unread;
     };
