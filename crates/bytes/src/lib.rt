@@ -1,4 +1,6 @@
 //! The bytes of numbers and of kinds of time, as a line book has them.
+#![tactic(auto)]
+
 ghost use Rattle.std.specs.Prelude.{◌≡◌, length};
 ghost use Rattle.kinds.specs.Time.{within};
 ghost use Rattle.bytes.specs.Spelling.{Spelling, Spells, Reads};

@@ -1,4 +1,6 @@
 //! The delay cost of times: late arrivals, broken connections and turned orders.
+#![tactic(auto)]
+
 ghost use Rattle.std.specs.Prelude.{◌≡◌, ◌+◌, ◌*◌, ◌<◌, ◌≤◌, length, if◌then◌else◌, nat_eq};
 ghost use Rattle.network.specs.Reckoning.{at};
 ghost use Rattle.records.specs.Places.{Laid};

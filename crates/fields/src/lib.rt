@@ -1,4 +1,6 @@
 //! The mark and the fields of a line book.
+#![tactic(auto)]
+
 ghost use Rattle.std.specs.Prelude.{◌≡◌};
 ghost use Rattle.fields.specs.Fields.{Marked, Names, Splits, tag_of};
 

@@ -1,4 +1,6 @@
 //! The constraints in force: from the entered records to a network of events, floors and arcs, and its least times or its ring.
+#![tactic(auto)]
+
 mod arcs;
 mod floors;
 mod plan;

@@ -1,4 +1,5 @@
 //! Lists of calls on a plan, and the promise over every such list.
+#![tactic(auto)]
 
 mod calls;
 mod control;

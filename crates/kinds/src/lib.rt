@@ -1,4 +1,6 @@
 //! Kinds of time: what the library asks of a time, and the two kinds of the base.
+#![tactic(auto)]
+
 ghost use Rattle.std.specs.Prelude.{◌≡◌, ℕ, ◌+◌};
 ghost use Rattle.kinds.specs.Time.{Time, Laws, within};
 ghost use Rattle.kinds.specs.Models.{seconds_time, changes_time};

@@ -1,4 +1,6 @@
 //! Networks of events and arcs over any kind of time: the least times, or the ring that forbids them.
+#![tactic(auto)]
+
 ghost use Rattle.std.specs.Prelude.{◌≡◌, ℕ, ◌+◌, ◌-◌, ◌*◌, ◌<◌, ◌≤◌, reverse, length, take, drop, Some, None, Decides, MatchOption, ◌≢◌, slice_index};
 ghost use Rattle.network.specs.Network.{Least, Ring, Names, HasRing, ends};
 ghost use Rattle.network.specs.Refusals.{Passed, Answers};

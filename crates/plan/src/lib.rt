@@ -1,4 +1,5 @@
 //! Working plans: drafts, open plans, and the calls on them.
+#![tactic(auto)]
 
 mod admits;
 mod changes;

@@ -1,4 +1,6 @@
 //! `reckon` reads a network as text from standard input and prints its least times, or the refusal.
+#![tactic(auto)]
+
 use anyhow::anyhow;
 use kinds::{Changes, Kind, Seconds};
 use network::{ARCS, Arc, EVENTS, MARKS, NetworkFault, TABLES, reckon};

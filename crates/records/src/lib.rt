@@ -1,5 +1,7 @@
 //! The records of a plan in lent memory: tracks, runs and connections, where the setting of each order lies, and whether what is
 //! stored can stand.
+#![tactic(auto)]
+
 ghost use Rattle.std.specs.Prelude.{◌≡◌, ℕ, ◌<◌, ◌≤◌, length};
 ghost use Rattle.records.specs.Records.{run_at, track-at, connection-at};
 ghost use Rattle.records.specs.Register.{seen, front};

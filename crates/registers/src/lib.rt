@@ -1,4 +1,6 @@
 //! Registers: what the calls on a plan said, folded from their arguments alone.
+#![tactic(auto)]
+
 ghost use Rattle.registers.specs.Force.{SameForce};
 ghost use Rattle.registers.specs.Kept.{SameKept};
 ghost use Rattle.registers.specs.Memories.{StepsAgree};

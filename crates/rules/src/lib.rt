@@ -1,4 +1,6 @@
 //! The rules of the calls on a plan: what each refuses before it reckons.
+#![tactic(auto)]
+
 ghost use Rattle.std.specs.Prelude.{Decides, OnOk};
 ghost use Rattle.network.specs.Refusals.{Answers};
 ghost use Rattle.records.specs.Register.{seen};

@@ -1,4 +1,6 @@
 //! A worked day: what the definitions say of one small day of three runs, number by number.
+#![tactic(auto)]
+
 ghost use Rattle.worked.specs.Day.{WorkedDay};
 
 /// The least times, delay costs, rings and refusals of the worked day are those of its table.
