@@ -33,13 +33,18 @@ def names_of(f, text):
             if not own_file(f) and re.match(r":\s*\w+\." + re.escape(m.group(1)) + r"\s*$", m.group(2)):
                 continue
             yield m.group(1)
-        m = re.match(rf"\s+(?:pub )?({NAME})\s+:\s", line)
+        m = re.match(rf"\s+(?:abbrev pub |unfoldable pub |pub |abbrev |unfoldable )?(?:record |data )?({NAME})\s*(?:[({{][^:]*)?:\s", line)
         if m and own_file(f):
             yield m.group(1)
 
 
 # Lemmas and definitions that would have the name of a function of the code.
-LEM = {"limits-kept", "never-for-ring", "never-ring", "number-or-none", "shown-costs-least", "worked-day"}
+LEM = {
+    "arrival-floor", "broken-cost", "connection-of", "delay-cost", "departure-floor", "late-cost", "lateness-cost", "limits-kept", "never-for-ring", "never-ring",
+    "number-or-none", "setting-of", "shown-costs-least", "track-of", "turned-cost", "worked-day",
+}
+# Lemmas whose dash joins two names of the library.
+JOINED = {"get_or-append_right"}
 
 
 def turned(name):
@@ -64,7 +69,7 @@ def main():
         if not f.endswith(".antt"):
             continue
         for n in names_of(f, text):
-            if "-" in n and re.fullmatch(r"[\w'-]+", n):
+            if "-" in n and n not in JOINED and re.fullmatch(r"[\w'-]+", n):
                 (where[n] if own_file(f) else local[f]).add(f if own_file(f) else n)
     every = set()
     for text in texts.values():

@@ -6,8 +6,8 @@ ghost use Rattle.network.specs.Reckoning.{at};
 ghost use Rattle.records.specs.Places.{Laid};
 ghost use Rattle.records.specs.Register.{seen, all_of, register_of};
 ghost use Rattle.records.specs.Stored.{Limits, Stored, Shown};
-ghost use Rattle.force.specs.Force.{track-in};
-ghost use Rattle.cost.specs.Cost.{turn-costs, lateness-cost, broken-cost, turned-cost, delay-cost, CostsLeast};
+ghost use Rattle.force.specs.Force.{track_in};
+ghost use Rattle.cost.specs.Cost.{turn_costs, lateness_cost_lem, broken_cost_lem, turned_cost_lem, delay_cost_lem, CostsLeast};
 
 use kinds::Kind;
 use records::{Run, View, connection_of, entered, lay_out, run_of, track_of};
@@ -44,7 +44,7 @@ fn penalty_if(setting: u8, penalty: u32) -> u64
 fn lateness_cost<K: Kind>(v: View<K>, times: &[K]) -> u64
     requires limits { (Limits K.Kind.time (all_of K.Kind.time (seen v))) × (length times.now ≡ 1024) }
     requires shown { Shown K.Kind.time times.now (2 * length v.runs.now) }
-    ensures cost { result ≡ lateness-cost K.Kind.time (all_of K.Kind.time (seen v.entry)) (at K.Kind.time times.now) }
+    ensures cost { result ≡ lateness_cost_lem K.Kind.time (all_of K.Kind.time (seen v.entry)) (at K.Kind.time times.now) }
     ensures few { result ≤ 60000000000000 }
 {
     let n = v.runs.len();
@@ -58,7 +58,7 @@ fn lateness_cost<K: Kind>(v: View<K>, times: &[K]) -> u64
 // What the broken connections cost.
 fn broken_cost<K: Kind>(v: View<K>) -> u64
     requires limits { (Limits K.Kind.time (all_of K.Kind.time (seen v))) × (length v.settings.now ≡ 4608) }
-    ensures cost { result ≡ broken-cost K.Kind.time (all_of K.Kind.time (seen v.entry)) }
+    ensures cost { result ≡ broken_cost_lem K.Kind.time (all_of K.Kind.time (seen v.entry)) }
     ensures few { result ≤ 512000000 }
 {
     let n = v.connections.len();
@@ -76,9 +76,9 @@ fn broken_cost<K: Kind>(v: View<K>) -> u64
 fn turned_of<K: Kind>(v: View<K>, counts: &[u16], sums: &[u32], befores: &[u16], j: usize) -> u64
     requires limits { (Limits K.Kind.time (all_of K.Kind.time (seen v))) × (length v.settings.now ≡ 4608) }
     requires long { (length counts.now ≡ 512) × ((length sums.now ≡ 512) × (length befores.now ≡ 512)) }
-    requires laid { Laid (track-in K.Kind.time (all_of K.Kind.time (seen v))) (length v.runs.now) counts.now sums.now befores.now }
+    requires laid { Laid (track_in K.Kind.time (all_of K.Kind.time (seen v))) (length v.runs.now) counts.now sums.now befores.now }
     requires inside { j < length v.runs.now }
-    ensures cost { result ≡ turn-costs K.Kind.time (all_of K.Kind.time (seen v.entry)) j }
+    ensures cost { result ≡ turn_costs K.Kind.time (all_of K.Kind.time (seen v.entry)) j }
     ensures few { result ≤ 512000000 }
 {
     let track = run_of(v.runs, j).track as usize;
@@ -98,8 +98,8 @@ fn turned_of<K: Kind>(v: View<K>, counts: &[u16], sums: &[u32], befores: &[u16],
 fn turned_cost<K: Kind>(v: View<K>, counts: &[u16], sums: &[u32], befores: &[u16]) -> u64
     requires limits { (Limits K.Kind.time (all_of K.Kind.time (seen v))) × (length v.settings.now ≡ 4608) }
     requires long { (length counts.now ≡ 512) × ((length sums.now ≡ 512) × (length befores.now ≡ 512)) }
-    requires laid { Laid (track-in K.Kind.time (all_of K.Kind.time (seen v))) (length v.runs.now) counts.now sums.now befores.now }
-    ensures cost { result ≡ turned-cost K.Kind.time (all_of K.Kind.time (seen v.entry)) }
+    requires laid { Laid (track_in K.Kind.time (all_of K.Kind.time (seen v))) (length v.runs.now) counts.now sums.now befores.now }
+    ensures cost { result ≡ turned_cost_lem K.Kind.time (all_of K.Kind.time (seen v.entry)) }
     ensures few { result ≤ 262144000000 }
 {
     let n = v.runs.len();
@@ -121,7 +121,7 @@ fn cost_of<K: Kind>(
     requires limits { (Limits K.Kind.time (all_of K.Kind.time (seen v))) × ((length v.settings.now ≡ 4608) × (length times.now ≡ 1024)) }
     requires long { (length counts.old ≡ 512) × ((length sums.old ≡ 512) × (length befores.old ≡ 512)) }
     requires shown { Shown K.Kind.time times.now (2 * length v.runs.now) }
-    ensures { result ≡ delay-cost K.Kind.time (all_of K.Kind.time (seen v.entry)) (at K.Kind.time times.now) }
+    ensures { result ≡ delay_cost_lem K.Kind.time (all_of K.Kind.time (seen v.entry)) (at K.Kind.time times.now) }
 {
     lay_out(v.runs, counts, sums, befores);
     let late = lateness_cost(v, times);
@@ -143,7 +143,7 @@ pub fn delay_cost<K: Kind>(
     requires lengths { (length v.tracks.now ≡ 64) × ((length v.runs.now ≡ 512) × ((length v.connections.now ≡ 512) × ((length v.settings.now ≡ 4608) × (length times.now ≡ 1024)))) }
     requires long { (length counts.old ≡ 512) × ((length sums.old ≡ 512) × (length befores.old ≡ 512)) }
     requires shown { Shown K.Kind.time times.now (2 * v.run_count) }
-    ensures { result ≡ delay-cost K.Kind.time (register_of K.Kind.time (seen v.entry)) (at K.Kind.time times.now) }
+    ensures { result ≡ delay_cost_lem K.Kind.time (register_of K.Kind.time (seen v.entry)) (at K.Kind.time times.now) }
 {
     cost_of(entered(v), times, counts, sums, befores)
 }

@@ -3,11 +3,11 @@ use Rattle.std.proofs.Common.{◌≡◌, ℕ, ◌*◌, ◌<◌, ◌≤◌, List,
 use Rattle.std.proofs.lemmas.List.{get_or-take, length-take-le}
 use Rattle.kinds.specs.Time.{Time}
 use Rattle.network.specs.declared.Arc.{Arc}
-use Rattle.network.specs.Reckoning.{at, network-of}
+use Rattle.network.specs.Reckoning.{at, network_of}
 use Rattle.records.specs.Register.{Register}
 use Rattle.force.specs.Force.{InForce}
-use Rattle.force.specs.Floors.{floor-of}
-use Rattle.force.specs.Constraints.{in-force}
+use Rattle.force.specs.Floors.{floor_of}
+use Rattle.force.specs.Constraints.{in_force}
 use Rattle.force.specs.Added.{Listed, Filled}
 use Rattle.force.proofs.Alike.{Alike}
 
@@ -22,7 +22,7 @@ module _ {K : Type 0} (t : Time K) where
       }
 
   module _ (R : Register K) where
-    pub alike : (floors : List K) (arcs : List (Arc K)) → length floors ≡ 2 * length R.runs → ((v : ℕ) → v < length floors → at t floors v ≡ floor-of t R v) → Listed t (InForce t R) arcs (length arcs) → Alike (network-of t floors arcs) (in-force t R)
+    pub alike : (floors : List K) (arcs : List (Arc K)) → length floors ≡ 2 * length R.runs → ((v : ℕ) → v < length floors → at t floors v ≡ floor_of t R v) → Listed t (InForce t R) arcs (length arcs) → Alike (network_of t floors arcs) (in_force t R)
     alike floors arcs events same listed = record {
       events = events;
       floors = same;
@@ -31,7 +31,7 @@ module _ {K : Type 0} (t : Time K) where
     }
 
     -- the fronts of the memories that are filled
-    pub filled_alike : (floors : List K) (arcs : List (Arc K)) (m : ℕ) → 2 * length R.runs ≤ length floors → m ≤ length arcs → Filled t R floors → Listed t (InForce t R) arcs m → Alike (network-of t (take (2 * length R.runs) floors) (take m arcs)) (in-force t R)
+    pub filled_alike : (floors : List K) (arcs : List (Arc K)) (m : ℕ) → 2 * length R.runs ≤ length floors → m ≤ length arcs → Filled t R floors → Listed t (InForce t R) arcs m → Alike (network_of t (take (2 * length R.runs) floors) (take m arcs)) (in_force t R)
     filled_alike floors arcs m room few h listed =
         let n = 2 * length R.runs in
         let e : length (take n floors) ≡ n = length-take-le n floors room in

@@ -6,12 +6,12 @@ use Rattle.network.specs.declared.Arc.{Arc}
 use Rattle.network.specs.Network.{Least}
 use Rattle.network.proofs.Chains.{Fit, grows}
 use Rattle.records.specs.declared.Run.{Run}
-use Rattle.records.specs.Records.{track-at}
+use Rattle.records.specs.Records.{track_at}
 use Rattle.records.specs.Register.{Register}
 use Rattle.records.specs.Stored.{Sized, SizedIfAny, Duration, Limits}
-use Rattle.force.specs.Force.{InForce, running, dwell, connection, departures, arrivals, meeting, Joins, Ahead, run_in, track-in}
-use Rattle.force.specs.Floors.{held, departure-floor, arrival-floor, floor-of}
-use Rattle.force.specs.Constraints.{arcs-in-force, in-force}
+use Rattle.force.specs.Force.{InForce, running, dwell, connection, departures, arrivals, meeting, Joins, Ahead, run_in, track_in}
+use Rattle.force.specs.Floors.{held, departure_floor_lem, arrival_floor_lem, floor_of}
+use Rattle.force.specs.Constraints.{arcs_in_force, in_force}
 use Rattle.force.proofs.Fills.{floor_even, floor_odd}
 
 module _ {K : Type 0} (t : Time K) where
@@ -53,25 +53,25 @@ module _ {K : Type 0} (t : Time K) where
         joins_sound _ _ _ _ _ a (omega (arith, f.0)) (omega (arith, f.1.0)) f.1.1.1.1 h
     in_force_sound a (departures u v h d) =
         let i = ahead_inside u v h in
-        let k = limits.tracks.each (track-in t R v) (limits.runs.each v i.1).0.1.0 in
+        let k = limits.tracks.each (track_in t R v) (limits.runs.each v i.1).0.1.0 in
         joins_sound _ _ _ _ _ a (omega (arith, i.0)) (omega (arith, i.1)) k.0 d.1
     in_force_sound a (arrivals u v h d) =
         let i = ahead_inside u v h in
-        let k = limits.tracks.each (track-in t R v) (limits.runs.each v i.1).0.1.0 in
+        let k = limits.tracks.each (track_in t R v) (limits.runs.each v i.1).0.1.0 in
         joins_sound _ _ _ _ _ a (omega (arith, i.0)) (omega (arith, i.1)) k.0 d.1
     in_force_sound a (meeting u v h d) =
         let i = ahead_inside u v h in
-        let k = limits.tracks.each (track-in t R v) (limits.runs.each v i.1).0.1.0 in
+        let k = limits.tracks.each (track_in t R v) (limits.runs.each v i.1).0.1.0 in
         joins_sound _ _ _ _ _ a (omega (arith, i.0)) (omega (arith, i.1)) k.1.0 d.1
 
-    pub in_force_fit : Fit t (2 * length R.runs) (arcs-in-force t R)
+    pub in_force_fit : Fit t (2 * length R.runs) (arcs_in_force t R)
     in_force_fit = record {
       starts = λ a h. (in_force_sound a h).starts;
       ends = λ a h. (in_force_sound a h).ends;
       short = λ a h. (in_force_sound a h).lasts.0;
     }
 
-    pub floor_small : (v : ℕ) → v < 2 * length R.runs → t.size (floor-of t R v) ≤ 1000000
+    pub floor_small : (v : ℕ) → v < 2 * length R.runs → t.size (floor_of t R v) ≤ 1000000
     floor_small v h =
         let P : K → Type 0 = Sized t in
         let inside : v / 2 < length R.runs = omega arith in
@@ -83,13 +83,13 @@ module _ {K : Type 0} (t : Time K) where
         ]
 
     -- a time joined along at most 1,023 arcs from a floor
-    pub least_small : Laws t → (time : ℕ → K) → Least t (in-force t R) time → (v : ℕ) → v < 2 * length R.runs → t.size (time v) ≤ 103300000
+    pub least_small : Laws t → (time : ℕ → K) → Least t (in_force t R) time → (v : ℕ) → v < 2 * length R.runs → t.size (time v) ≤ 103300000
     least_small laws time least v h =
         let r = least.walks.reached v h in
         let few = limits.few_runs in
         let w = r.2 in
         let long = w.count in
         let short = r.1 in
-        let g = grows laws (2 * length R.runs) (arcs-in-force t R) in_force_fit (floor-of t R w.first) 1000000 w.first w.walk v w.chain (floor_small w.first w.inside) (omega arith) in
+        let g = grows laws (2 * length R.runs) (arcs_in_force t R) in_force_fit (floor_of t R w.first) 1000000 w.first w.walk v w.chain (floor_small w.first w.inside) (omega arith) in
         let e = ap t.size w.value in
         omega arith

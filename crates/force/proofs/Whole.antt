@@ -2,26 +2,26 @@
 use Rattle.std.proofs.Common.{◌≡◌, ℕ, ◌+◌, ◌*◌, ◌<◌, ◌≤◌, ◌⊎◌, List, length, sym, refl, ap, ◌∙◌, subst, inl, inr, arith}
 use Rattle.kinds.specs.Time.{Time}
 use Rattle.network.specs.declared.Arc.{Arc}
-use Rattle.records.specs.Records.{track-at}
+use Rattle.records.specs.Records.{track_at}
 use Rattle.records.specs.Places.{Ordered}
 use Rattle.records.specs.Register.{Register}
 use Rattle.force.specs.Added.{Added, Listed, RunArcs, OrderArcs, ConnectionArcs, Follows}
-use Rattle.force.specs.Force.{InForce, running, dwell, connection, departures, arrivals, meeting, Ahead, run_in, track-in}
+use Rattle.force.specs.Force.{InForce, running, dwell, connection, departures, arrivals, meeting, Ahead, run_in, track_in}
 use Rattle.force.proofs.Adds.{added_as, added_then, listed}
 
 module _ {K : Type 0} (t : Time K) (R : Register K) where
   abbrev From : Arc K → Type 0
   From a = (RunArcs t R (length R.runs) a ⊎ ConnectionArcs t R (length R.connections) a) ⊎ OrderArcs t R (length R.runs) a
 
-  follows_in_force : (u v : ℕ) (a : Arc K) → Ahead t R u v → Follows (track-at t R.tracks (track-in t R v)) u (run_in t R u) v (run_in t R v) a → InForce t R a
+  follows_in_force : (u v : ℕ) (a : Arc K) → Ahead t R u v → Follows (track_at t R.tracks (track_in t R v)) u (run_in t R u) v (run_in t R v) a → InForce t R a
   follows_in_force u v a h (inl d) = departures u v h d
   follows_in_force u v a h (inr (inl d)) = arrivals u v h d
   follows_in_force u v a h (inr (inr d)) = meeting u v h d
 
-  moved : (u v w x : ℕ) (a : Arc K) → w ≡ x → Follows (track-at t R.tracks w) u (run_in t R u) v (run_in t R v) a → Follows (track-at t R.tracks x) u (run_in t R u) v (run_in t R v) a
-  moved u v w x a e f = let P : ℕ → Type 0 = λ z. Follows (track-at t R.tracks z) u (run_in t R u) v (run_in t R v) a in subst P e f
+  moved : (u v w x : ℕ) (a : Arc K) → w ≡ x → Follows (track_at t R.tracks w) u (run_in t R u) v (run_in t R v) a → Follows (track_at t R.tracks x) u (run_in t R u) v (run_in t R v) a
+  moved u v w x a e f = let P : ℕ → Type 0 = λ z. Follows (track_at t R.tracks z) u (run_in t R u) v (run_in t R v) a in subst P e f
 
-  ahead_order : (u v : ℕ) (a : Arc K) → Ahead t R u v → Follows (track-at t R.tracks (track-in t R v)) u (run_in t R u) v (run_in t R v) a → OrderArcs t R (length R.runs) a
+  ahead_order : (u v : ℕ) (a : Arc K) → Ahead t R u v → Follows (track_at t R.tracks (track_in t R v)) u (run_in t R u) v (run_in t R v) a → OrderArcs t R (length R.runs) a
   ahead_order u v a (inl h) f = (v, (omega arith, h.0.inside, (u, (omega arith, h.0.below, (h.0.shared, inl (h.1, f))))))
   ahead_order u v a (inr h) f = (u, (omega arith, h.0.inside, (v, (omega arith, h.0.below, (h.0.shared, inr (h.1, moved u v _ _ a h.0.shared f))))))
 

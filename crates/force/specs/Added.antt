@@ -3,25 +3,25 @@
 use Rattle.std.specs.Prelude.{◌≡◌, ℕ, ◌+◌, ◌*◌, ◌<◌, ◌≤◌, ◌⊎◌, List, length}
 use Rattle.kinds.specs.Time.{Time}
 use Rattle.network.specs.declared.Arc.{Arc}
-use Rattle.network.specs.Reckoning.{at, arc-at}
+use Rattle.network.specs.Reckoning.{at, arc_at}
 use Rattle.records.specs.declared.Track.{Track}
 use Rattle.records.specs.declared.Run.{Run}
 use Rattle.records.specs.declared.Connection.{Connection}
 use Rattle.records.specs.Register.{Register}
-use Rattle.force.specs.Force.{Running, Dwell, Connects, Departures, Arrivals, Meeting, run_in, track-in, track_under, connection-in}
-use Rattle.force.specs.Floors.{departure-floor, arrival-floor, floor-of}
+use Rattle.force.specs.Force.{Running, Dwell, Connects, Departures, Arrivals, Meeting, run_in, track_in, track_under, connection_in}
+use Rattle.force.specs.Floors.{departure_floor_lem, arrival_floor_lem, floor_of}
 
 -- the places of ys from m up to n hold exactly the arcs of P, and those below m are as in xs
 pub record Added {K : Type 0} (t : Time K) (P : Arc K → Type 0) (xs : List (Arc K)) (m : ℕ) (ys : List (Arc K)) (n : ℕ) : Type 0 where
   pub grows : m ≤ n
-  pub kept : (k : ℕ) → k < m → arc-at t ys k ≡ arc-at t xs k
-  pub each : (k : ℕ) → m ≤ k → k < n → P (arc-at t ys k)
-  pub all : (a : Arc K) → P a → (k : ℕ) × ((m ≤ k) × (k < n) × (arc-at t ys k ≡ a))
+  pub kept : (k : ℕ) → k < m → arc_at t ys k ≡ arc_at t xs k
+  pub each : (k : ℕ) → m ≤ k → k < n → P (arc_at t ys k)
+  pub all : (a : Arc K) → P a → (k : ℕ) × ((m ≤ k) × (k < n) × (arc_at t ys k ≡ a))
 
 -- the first n places hold exactly the arcs of P
 pub record Listed {K : Type 0} (t : Time K) (P : Arc K → Type 0) (ys : List (Arc K)) (n : ℕ) : Type 0 where
-  pub each : (k : ℕ) → k < n → P (arc-at t ys k)
-  pub all : (a : Arc K) → P a → (k : ℕ) × ((k < n) × (arc-at t ys k ≡ a))
+  pub each : (k : ℕ) → k < n → P (arc_at t ys k)
+  pub all : (a : Arc K) → P a → (k : ℕ) × ((k < n) × (arc_at t ys k ≡ a))
 
 -- an arc of C r for some r from low up to high
 abbrev pub Among : {K : Type 0} → (ℕ → Arc K → Type 0) → ℕ → ℕ → Arc K → Type 0
@@ -46,7 +46,7 @@ module _ {K : Type 0} where
   module _ (t : Time K) (R : Register K) where
     -- run j's order with an earlier run i
     abbrev pub OrderOf : ℕ → ℕ → Arc K → Type 0
-    OrderOf j i a = (track-in t R i ≡ track-in t R j) × Turns (track_under t R j) (R.order i j) i (run_in t R i) j (run_in t R j) a
+    OrderOf j i a = (track_in t R i ≡ track_in t R j) × Turns (track_under t R j) (R.order i j) i (run_in t R i) j (run_in t R j) a
 
     abbrev pub RunArcs : ℕ → Arc K → Type 0
     RunArcs n = Among (λ r. OfRun r (run_in t R r)) 0 n
@@ -55,16 +55,16 @@ module _ {K : Type 0} where
     OrderArcs n = Among (λ j. Among (OrderOf j) 0 j) 0 n
 
     abbrev pub ConnectionOf : ℕ → Arc K → Type 0
-    ConnectionOf c a = Keeps (R.link c) (connection-in t R c) (run_in t R (connection-in t R c).onward) a
+    ConnectionOf c a = Keeps (R.link c) (connection_in t R c) (run_in t R (connection_in t R c).onward) a
 
     abbrev pub ConnectionArcs : ℕ → Arc K → Type 0
     ConnectionArcs n = Among ConnectionOf 0 n
 
     -- the floors of the events of the first n runs
     pub record FloorsOf (n : ℕ) (floors : List K) : Type 0 where
-      pub departures : (r : ℕ) → r < n → at t floors (2 * r) ≡ departure-floor t (run_in t R r)
-      pub arrivals : (r : ℕ) → r < n → at t floors (2 * r + 1) ≡ arrival-floor t (run_in t R r)
+      pub departures : (r : ℕ) → r < n → at t floors (2 * r) ≡ departure_floor_lem t (run_in t R r)
+      pub arrivals : (r : ℕ) → r < n → at t floors (2 * r + 1) ≡ arrival_floor_lem t (run_in t R r)
 
     -- the front of a memory holds the floor of each event
     pub record Filled (floors : List K) : Type 0 where
-      pub each : (v : ℕ) → v < 2 * length R.runs → at t floors v ≡ floor-of t R v
+      pub each : (v : ℕ) → v < 2 * length R.runs → at t floors v ≡ floor_of t R v

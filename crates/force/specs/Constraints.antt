@@ -5,12 +5,12 @@ use Rattle.network.specs.declared.Arc.{Arc}
 use Rattle.network.specs.Network.{Arcs, Network}
 use Rattle.records.specs.Register.{Register}
 use Rattle.force.specs.Force.{InForce}
-use Rattle.force.specs.Floors.{floor-of}
+use Rattle.force.specs.Floors.{floor_of}
 
 module _ {K : Type 0} (t : Time K) where
   -- an arc names itself
-  abbrev pub arcs-in-force : Register K → Arcs K
-  arcs-in-force R = record { Name = Arc K; Has = InForce t R; arc = λ a. a }
+  abbrev pub arcs_in_force : Register K → Arcs K
+  arcs_in_force R = record { Name = Arc K; Has = InForce t R; arc = λ a. a }
 
-  abbrev pub in-force : Register K → Network K
-  in-force R = record { events = 2 * length R.runs; floor = floor-of t R; arcs = arcs-in-force R }
+  abbrev pub in_force : Register K → Network K
+  in_force R = record { events = 2 * length R.runs; floor = floor_of t R; arcs = arcs_in_force R }

@@ -16,12 +16,12 @@ module _ {K : Type 0} (t : Time K) where
   held schedule None = schedule
   held schedule (Some hold) = later_of schedule hold
 
-  abbrev pub departure-floor : Run K → K
-  departure-floor x = unwrap_or x.departed (held x.departure x.hold)
+  abbrev pub departure_floor_lem : Run K → K
+  departure_floor_lem x = unwrap_or x.departed (held x.departure x.hold)
 
-  abbrev pub arrival-floor : Run K → K
-  arrival-floor x = unwrap_or x.arrived x.arrival
+  abbrev pub arrival_floor_lem : Run K → K
+  arrival_floor_lem x = unwrap_or x.arrived x.arrival
 
   -- an even event is the departure of a run, an odd one its arrival
-  abbrev pub floor-of : Register K → ℕ → K
-  floor-of R v = cond (v % 2 == 0) (departure-floor (run_in t R (v / 2))) (arrival-floor (run_in t R (v / 2)))
+  abbrev pub floor_of : Register K → ℕ → K
+  floor_of R v = cond (v % 2 == 0) (departure_floor_lem (run_in t R (v / 2))) (arrival_floor_lem (run_in t R (v / 2)))

@@ -5,7 +5,7 @@ use Rattle.network.specs.declared.Arc.{Arc}
 use Rattle.records.specs.declared.Track.{Track}
 use Rattle.records.specs.declared.Run.{Run}
 use Rattle.records.specs.declared.Connection.{Connection}
-use Rattle.records.specs.Records.{run_at, track-at, connection-at, track-of}
+use Rattle.records.specs.Records.{run_at, track_at, connection_at, track_of_lem}
 use Rattle.records.specs.Places.{Ordered}
 use Rattle.records.specs.Register.{Register}
 
@@ -50,27 +50,27 @@ module _ {K : Type 0} where
     run_in = run_at t R.runs
 
     -- the number of the track of a run
-    abbrev pub track-in : ℕ → ℕ
-    track-in = track-of t R.runs
+    abbrev pub track_in : ℕ → ℕ
+    track_in = track_of_lem t R.runs
 
     -- the track of a run
     abbrev pub track_under : ℕ → Track K
-    track_under r = track-at t R.tracks (track-in r)
+    track_under r = track_at t R.tracks (track_in r)
 
-    abbrev pub connection-in : ℕ → Connection K
-    connection-in = connection-at t R.connections
+    abbrev pub connection_in : ℕ → Connection K
+    connection_in = connection_at t R.connections
 
     -- Run u stands ahead of run v: they share a track, and the setting of their order, which is that of the lower number and the
     -- higher, is 0 if u is the lower and 1 if it is the higher.
     abbrev pub Ahead : ℕ → ℕ → Type 0
     Ahead u v =
-        (Ordered track-in (length R.runs) u v × (R.order u v ≡ 0))
-        ⊎ (Ordered track-in (length R.runs) v u × (R.order v u ≡ 1))
+        (Ordered track_in (length R.runs) u v × (R.order u v ≡ 0))
+        ⊎ (Ordered track_in (length R.runs) v u × (R.order v u ≡ 1))
 
     pub data InForce (a : Arc K) : Type 0 where
       running : (r : ℕ) → r < length R.runs → Running r (run_in r) a → InForce a
       dwell : (r : ℕ) → r < length R.runs → Dwell r (run_in r) a → InForce a
-      connection : (c : ℕ) → c < length R.connections → R.link c ≡ 0 → Connects (connection-in c) (run_in (connection-in c).onward) a → InForce a
+      connection : (c : ℕ) → c < length R.connections → R.link c ≡ 0 → Connects (connection_in c) (run_in (connection_in c).onward) a → InForce a
       departures : (u v : ℕ) → Ahead u v → Departures (track_under v) u (run_in u) v (run_in v) a → InForce a
       arrivals : (u v : ℕ) → Ahead u v → Arrivals (track_under v) u (run_in u) v (run_in v) a → InForce a
       meeting : (u v : ℕ) → Ahead u v → Meeting (track_under v) u (run_in u) v (run_in v) a → InForce a

@@ -3,7 +3,7 @@ ghost use Rattle.std.specs.Prelude.{◌≡◌, ℕ, ◌+◌, ◌*◌, ◌<◌, �
 ghost use Rattle.records.specs.Places.{total, earlier, Laid};
 ghost use Rattle.records.specs.Register.{seen, all_of, register_of};
 ghost use Rattle.records.specs.Stored.{Limits, Stored};
-ghost use Rattle.force.specs.Force.{Joins, InForce, track-in};
+ghost use Rattle.force.specs.Force.{Joins, InForce, track_in};
 ghost use Rattle.force.specs.Added.{Added, Listed, Among, OfRun, Follows, Turns, OrderOf, RunArcs, OrderArcs, ConnectionArcs, Keeps};
 
 use kinds::Kind;
@@ -138,11 +138,11 @@ fn add_orders_of<K: Kind>(
 ) -> usize
     requires limits { (Limits K.Kind.time (all_of K.Kind.time (seen v))) × (length v.settings.now ≡ 4608) }
     requires long { (length arcs.old ≡ 9728) × ((length counts.now ≡ 512) × ((length sums.now ≡ 512) × (length befores.now ≡ 512))) }
-    requires laid { Laid (track-in K.Kind.time (all_of K.Kind.time (seen v))) (length v.runs.now) counts.now sums.now befores.now }
+    requires laid { Laid (track_in K.Kind.time (all_of K.Kind.time (seen v))) (length v.runs.now) counts.now sums.now befores.now }
     requires inside { j < length v.runs.now }
-    requires room { start + 2 * earlier (track-in K.Kind.time (all_of K.Kind.time (seen v))) j ≤ 9728 }
+    requires room { start + 2 * earlier (track_in K.Kind.time (all_of K.Kind.time (seen v))) j ≤ 9728 }
     ensures added { Added K.Kind.time (Among (OrderOf K.Kind.time (all_of K.Kind.time (seen v.entry)) j) 0 j) arcs.old start arcs.new result }
-    ensures room { result ≤ start + 2 * earlier (track-in K.Kind.time (all_of K.Kind.time (seen v.entry))) j }
+    ensures room { result ≤ start + 2 * earlier (track_in K.Kind.time (all_of K.Kind.time (seen v.entry))) j }
 {
     let y = run_of(v.runs, j);
     let track = track_of(v.tracks, y.track as usize);
@@ -169,10 +169,10 @@ fn add_orders<K: Kind>(
 ) -> usize
     requires limits { (Limits K.Kind.time (all_of K.Kind.time (seen v))) × (length v.settings.now ≡ 4608) }
     requires long { (length arcs.old ≡ 9728) × ((length counts.now ≡ 512) × ((length sums.now ≡ 512) × (length befores.now ≡ 512))) }
-    requires laid { Laid (track-in K.Kind.time (all_of K.Kind.time (seen v))) (length v.runs.now) counts.now sums.now befores.now }
-    requires room { start + 2 * total (track-in K.Kind.time (all_of K.Kind.time (seen v))) (length v.runs.now) ≤ 9728 }
+    requires laid { Laid (track_in K.Kind.time (all_of K.Kind.time (seen v))) (length v.runs.now) counts.now sums.now befores.now }
+    requires room { start + 2 * total (track_in K.Kind.time (all_of K.Kind.time (seen v))) (length v.runs.now) ≤ 9728 }
     ensures added { Added K.Kind.time (OrderArcs K.Kind.time (all_of K.Kind.time (seen v.entry)) (length v.entry.runs.now)) arcs.old start arcs.new result }
-    ensures room { result ≤ start + 2 * total (track-in K.Kind.time (all_of K.Kind.time (seen v.entry))) (length v.entry.runs.now) }
+    ensures room { result ≤ start + 2 * total (track_in K.Kind.time (all_of K.Kind.time (seen v.entry))) (length v.entry.runs.now) }
 {
     let n = v.runs.len();
     let mut m = start;

@@ -1,7 +1,7 @@
 //! The floors of a plan's events.
 ghost use Rattle.std.specs.Prelude.{◌≡◌, ℕ, ◌+◌, ◌*◌, ◌<◌, ◌≤◌, length, slice_set};
 ghost use Rattle.records.specs.Register.{seen, all_of, register_of};
-ghost use Rattle.force.specs.Floors.{departure-floor, arrival-floor};
+ghost use Rattle.force.specs.Floors.{departure_floor_lem, arrival_floor_lem};
 ghost use Rattle.force.specs.Added.{FloorsOf, Filled};
 
 use kinds::Kind;
@@ -9,7 +9,7 @@ use records::{Run, View, entered, run_of};
 
 // The report, else the later of the schedule and the hold.
 fn departure_floor<K: Kind>(run: Run<K>) -> K
-    ensures { result ≡ departure-floor K.Kind.time run }
+    ensures { result ≡ departure_floor_lem K.Kind.time run }
 {
     match (run.departed, run.hold) {
         (Some(report), _) => report,
@@ -26,7 +26,7 @@ fn departure_floor<K: Kind>(run: Run<K>) -> K
 
 // The report, else the schedule.
 fn arrival_floor<K: Kind>(run: Run<K>) -> K
-    ensures { result ≡ arrival-floor K.Kind.time run }
+    ensures { result ≡ arrival_floor_lem K.Kind.time run }
 {
     match run.arrived {
         Some(report) => report,

@@ -12,17 +12,17 @@ use Rattle.records.specs.declared.Connection.{Connection}
 use Rattle.records.specs.Records.{run_at}
 use Rattle.records.specs.Register.{Register, Memory, register_of}
 use Rattle.records.specs.Stored.{Stored, Limits}
-use Rattle.force.specs.Constraints.{in-force}
-use Rattle.rules.specs.Rows.{RecordsListed, Given, hold-rows, release-rows, Over}
+use Rattle.force.specs.Constraints.{in_force}
+use Rattle.rules.specs.Rows.{RecordsListed, Given, hold_rows, release_rows, Over}
 use Rattle.rules.specs.declared.faults.PlanFault.{PlanFault}
 use Rattle.rules.specs.declared.faults.PlanFault.TheVariants as refused
 use Rattle.rules.specs.Faults.{plan_number, plan_place}
 use Rattle.rules.proofs.Rows.{passed_front, passed_back, hold_passed, release_passed}
 use Rattle.plan.specs.declared.states.Open.{Open}
 use Rattle.plan.specs.declared.states.Slip.{Slip}
-use Rattle.plan.specs.States.{open-memory}
-use Rattle.plan.specs.Steps.{holding, hold-memory}
-use Rattle.plan.specs.Calls.{Lengths, Listed, open-call-rows, ring-rows, Reckons}
+use Rattle.plan.specs.States.{open_memory}
+use Rattle.plan.specs.Steps.{holding, hold_memory}
+use Rattle.plan.specs.Calls.{Lengths, Listed, open_call_rows, ring_rows, Reckons}
 use Rattle.plan.proofs.Reckoned.{failed, taken as took}
 use Rattle.registers.specs.Steps.{Same, hold}
 use Rattle.registers.specs.Stays.{LimitsKept}
@@ -81,10 +81,10 @@ emptied (x ∷ xs) zero e = ap (λ y. y ∷ xs) (sym e)
 emptied (x ∷ xs) (suc i) e = ap (λ ys. x ∷ ys) (emptied xs i e)
 
 module _ {K : Type 0} (t : Time K) (laws : Laws t) (o : Open) (tracks : List (Track K)) (runs : List (Run K)) (connections : List (Connection K)) (settings : List ℕ) (times : List K) (slips : List (Option Slip))
-    (B : Books K) (st : Stands t B (state (stage.Open o) tracks runs connections settings times slips)) (records : RecordsListed (open-memory o tracks runs connections settings)) (long-times : length times ≡ 1024) (long-slips : length slips ≡ 512)
+    (B : Books K) (st : Stands t B (state (stage.Open o) tracks runs connections settings times slips)) (records : RecordsListed (open_memory o tracks runs connections settings)) (long-times : length times ≡ 1024) (long-slips : length slips ≡ 512)
     (l : Sizes) (listed : AllListed l) (ring ring' : List ℕ) (trial : List K) (w : Lengths) (works : Listed w) (kept : LimitsKept t) where
   abbrev m : Memory K
-  m = open-memory o tracks runs connections settings
+  m = open_memory o tracks runs connections settings
 
   abbrev was : Register K
   was = register_of t m
@@ -92,7 +92,7 @@ module _ {K : Type 0} (t : Time K) (laws : Laws t) (o : Open) (tracks : List (Tr
   yes_open : B.opened ≡ true
   yes_open = opened t laws o tracks runs connections settings times slips B st records long-times
 
-  off : Passed (open-call-rows t w m times)
+  off : Passed (open_call_rows t w m times)
   off = ((λ no-lists. no-lists works), open_passed t laws o tracks runs connections settings times slips B st records long-times)
 
   limits : Limits t B.register
@@ -110,16 +110,16 @@ module _ {K : Type 0} (t : Time K) (laws : Laws t) (o : Open) (tracks : List (Tr
   long_books : length B.slips ≡ 512
   long_books = ap length (sym st.slips) ∙ length_map is_some slips ∙ long-slips
 
-  stored_by : (R : Register K) (r : ℕ) (until : Option K) → Same t (register_of t (hold-memory t m r until)) R → Limits t R → Stored t (hold-memory t m r until)
-  stored_by R r until same good = record { few_tracks = st.stored.few_tracks; few_runs = st.stored.few_runs; few_connections = st.stored.few_connections; limits = same_limits t R (register_of t (hold-memory t m r until)) (same_sym t _ _ same) good }
+  stored_by : (R : Register K) (r : ℕ) (until : Option K) → Same t (register_of t (hold_memory t m r until)) R → Limits t R → Stored t (hold_memory t m r until)
+  stored_by R r until same good = record { few_tracks = st.stored.few_tracks; few_runs = st.stored.few_runs; few_connections = st.stored.few_connections; limits = same_limits t R (register_of t (hold_memory t m r until)) (same_sym t _ _ same) good }
 
-  pub held_same : (r : ℕ) (until : Option K) → r < o.runs → Same t (register_of t (hold-memory t m r until)) (hold t B.register r until)
+  pub held_same : (r : ℕ) (until : Option K) → r < o.runs → Same t (register_of t (hold_memory t m r until)) (hold t B.register r until)
   held_same r until h = same_trans t _ _ _ ((steps_of t m st.stored records).hold r until h) (hold_kept t was B.register st.same r until)
 
   -- the plan with run r held until a time or free, and its slot so
-  slot_stands : (r : ℕ) (until : Option K) (slot : Option Slip) (times' : List K) → r < o.runs → Limits t (hold t B.register r until) → Least t (in-force t (hold t B.register r until)) (at t times')
+  slot_stands : (r : ℕ) (until : Option K) (slot : Option Slip) (times' : List K) → r < o.runs → Limits t (hold t B.register r until) → Least t (in_force t (hold t B.register r until)) (at t times')
       → (is_some slot ≡ true → Given until) × (Given until → is_some slot ≡ true) → ((x : Slip) → slot ≡ Some x → (x.plan ≡ B.number) × (x.run ≡ r))
-      → Stands t (record { number = B.number; opened = B.opened; register = hold t B.register r until; slips = set B.slips r (is_some slot) }) (state (stage.Open o) tracks (hold-memory t m r until).runs connections settings times' (set slips r slot))
+      → Stands t (record { number = B.number; opened = B.opened; register = hold t B.register r until; slips = set B.slips r (is_some slot) }) (state (stage.Open o) tracks (hold_memory t m r until).runs connections settings times' (set slips r slot))
   slot_stands r until slot times' h good least both mine =
       let z = long_runs in
       let y = few_runs in
@@ -159,17 +159,17 @@ module _ {K : Type 0} (t : Time K) (laws : Laws t) (o : Open) (tracks : List (Tr
             ]);
       }
 
-  pub hold_step : (r : ℕ) (until : K) (times' : List K) (runs' : List (Run K)) (s : Slip) → Reckons t (open-call-rows t w m times ++ hold-rows t was r until) (register_of t (hold-memory t m r (Some until))) times times' ring ring' (took Slip s) → runs' ≡ (hold-memory t m r (Some until)).runs → (s.plan ≡ o.number) × (s.run ≡ r) → Told t l B (call.Hold r until) (Ok answer.Done) ring' trial × Stands t (taken t B (call.Hold r until)) (state (stage.Open o) tracks runs' connections settings times' (set slips r (Some s)))
+  pub hold_step : (r : ℕ) (until : K) (times' : List K) (runs' : List (Run K)) (s : Slip) → Reckons t (open_call_rows t w m times ++ hold_rows t was r until) (register_of t (hold_memory t m r (Some until))) times times' ring ring' (took Slip s) → runs' ≡ (hold_memory t m r (Some until)).runs → (s.plan ≡ o.number) × (s.run ≡ r) → Told t l B (call.Hold r until) (Ok answer.Done) ring' trial × Stands t (taken t B (call.Hold r until)) (state (stage.Open o) tracks runs' connections settings times' (set slips r (Some s)))
   hold_step r until times' runs' s k written mine =
-      let fine = passed_back (open-call-rows t w m times) (hold-rows t was r until) (passed_front (open-call-rows t w m times ++ hold-rows t was r until) (ring-rows t (register_of t (hold-memory t m r (Some until)))) k.answers) in
+      let fine = passed_back (open_call_rows t w m times) (hold_rows t was r until) (passed_front (open_call_rows t w m times ++ hold_rows t was r until) (ring_rows t (register_of t (hold_memory t m r (Some until)))) k.answers) in
       let a = long_was in
       let known = (hold_passed t was r until fine).known in
       let inside : r < o.runs = omega arith in
-      let res = reckoned_taken t (open-call-rows t w m times) (hold-rows t was r until) (hold-rows t B.register r until) (register_of t (hold-memory t m r (Some until))) (hold t B.register r (Some until)) off (hold_match t was B.register st.same r until) (λ _. held_same r (Some until) inside) times times' ring ring' Slip s k in
+      let res = reckoned_taken t (open_call_rows t w m times) (hold_rows t was r until) (hold_rows t B.register r until) (register_of t (hold_memory t m r (Some until))) (hold t B.register r (Some until)) off (hold_match t was B.register st.same r until) (λ _. held_same r (Some until) inside) times times' ring ring' Slip s k in
       let good = (kept.steps B.register limits).holding r until (((rows_shared t was B.register st.same).hold r until).passed fine) in
       let base = slot_stands r (Some until) (Some s) times' inside good res.1 ((λ _. tt), (λ _. refl)) (λ x e. (let q = some_same e in (ap (λ y. y.plan) (sym q) ∙ mine.0 ∙ st.number, ap (λ y. y.run) (sym q) ∙ mine.1))) in
       let P : List (Run K) → Type 0 = λ rs. Stands t (taken t B (call.Hold r until)) (state (stage.Open o) tracks rs connections settings times' (set slips r (Some s))) in
-      (record { answers = fronts_pass t laws o tracks runs connections settings times slips B st records long-times l listed ring ring' trial (hold-rows t B.register r until ++ ring-rows t (hold t B.register r (Some until))) res.0; carried = refl; named = tt }, subst P (sym written) base)
+      (record { answers = fronts_pass t laws o tracks runs connections settings times slips B st records long-times l listed ring ring' trial (hold_rows t B.register r until ++ ring_rows t (hold t B.register r (Some until))) res.0; carried = refl; named = tt }, subst P (sym written) base)
 
   module _ (r : ℕ) (s : Slip) (slot : get_or slips r None ≡ Some s) where
     mine : (s.plan ≡ B.number) × (s.run ≡ r) × (r < length B.register.runs)
@@ -187,38 +187,38 @@ module _ {K : Type 0} (t : Time K) (laws : Laws t) (o : Open) (tracks : List (Tr
         let Q : List (Run K) → Type 0 = λ rs. Given (run_at t rs r).hold in
         subst P (sym mine.1) (subst Q (sym st.same.runs) ((st.held yes_open r mine.2).0 full))
 
-    pub release_passes : Passed (release-rows t was o.number s.plan s.run)
+    pub release_passes : Passed (release_rows t was o.number s.plan s.run)
     release_passes =
         let z = long_was in
         let h = inside in
         let e = mine.1 in
         ((λ ne. ne (mine.0 ∙ sym st.number)), ((λ past. omega arith), ((λ none. none given), tt)))
 
-    pub release_off : Passed (open-call-rows t w m times ++ release-rows t was o.number s.plan s.run)
-    release_off = passed_more (open-call-rows t w m times) (release-rows t was o.number s.plan s.run) off release_passes
+    pub release_off : Passed (open_call_rows t w m times ++ release_rows t was o.number s.plan s.run)
+    release_off = passed_more (open_call_rows t w m times) (release_rows t was o.number s.plan s.run) off release_passes
 
-    freed : Same t (register_of t (hold-memory t m s.run None)) (hold t B.register r None)
+    freed : Same t (register_of t (hold_memory t m s.run None)) (hold t B.register r None)
     freed =
-        let P : ℕ → Type 0 = λ k. Same t (register_of t (hold-memory t m k None)) (hold t B.register r None) in
+        let P : ℕ → Type 0 = λ k. Same t (register_of t (hold_memory t m k None)) (hold t B.register r None) in
         subst P (sym mine.1) (held_same r None inside)
 
-    passes_on : Passed (ring-rows t (hold t B.register r None)) → Passed (call_rows t l B (call.Release r))
+    passes_on : Passed (ring_rows t (hold t B.register r None)) → Passed (call_rows t l B (call.Release r))
     passes_on p = ((λ e. false≢true (sym e ∙ yes_open)), ((λ e. false≢true (sym e ∙ full)), ((λ no-lists. no-lists listed), p)))
 
-    first_on : (n p : ℕ) → First (ring-rows t (hold t B.register r None)) n p → First (call_rows t l B (call.Release r)) n p
+    first_on : (n p : ℕ) → First (ring_rows t (hold t B.register r None)) n p → First (call_rows t l B (call.Release r)) n p
     first_on n p f = inr ((λ e. false≢true (sym e ∙ yes_open)), inr ((λ e. false≢true (sym e ∙ full)), inr ((λ no-lists. no-lists listed), f)))
 
-    pub release_step : (times' : List K) (runs' : List (Run K)) → Reckons t (open-call-rows t w m times ++ release-rows t was o.number s.plan s.run) (register_of t (hold-memory t m s.run None)) times times' ring ring' (took (Unit {0}) tt) → runs' ≡ (hold-memory t m s.run None).runs → Told t l B (call.Release r) (Ok answer.Done) ring' trial × Stands t (taken t B (call.Release r)) (state (stage.Open o) tracks runs' connections settings times' (set slips r None))
+    pub release_step : (times' : List K) (runs' : List (Run K)) → Reckons t (open_call_rows t w m times ++ release_rows t was o.number s.plan s.run) (register_of t (hold_memory t m s.run None)) times times' ring ring' (took (Unit {0}) tt) → runs' ≡ (hold_memory t m s.run None).runs → Told t l B (call.Release r) (Ok answer.Done) ring' trial × Stands t (taken t B (call.Release r)) (state (stage.Open o) tracks runs' connections settings times' (set slips r None))
     release_step times' runs' k written =
-        let res = reckoned_taken t (open-call-rows t w m times ++ release-rows t was o.number s.plan s.run) [] [] (register_of t (hold-memory t m s.run None)) (hold t B.register r None) release_off tt (λ _. freed) times times' ring ring' (Unit {0}) tt k in
-        let good = (kept.steps B.register limits).releasing o.number s.plan r (((rows_shared t was B.register st.same).release o.number s.plan r).passed (let P : ℕ → Type 0 = λ q. Passed (release-rows t was o.number s.plan q) in subst P mine.1 release_passes)) in
+        let res = reckoned_taken t (open_call_rows t w m times ++ release_rows t was o.number s.plan s.run) [] [] (register_of t (hold_memory t m s.run None)) (hold t B.register r None) release_off tt (λ _. freed) times times' ring ring' (Unit {0}) tt k in
+        let good = (kept.steps B.register limits).releasing o.number s.plan r (((rows_shared t was B.register st.same).release o.number s.plan r).passed (let P : ℕ → Type 0 = λ q. Passed (release_rows t was o.number s.plan q) in subst P mine.1 release_passes)) in
         let base = slot_stands r None None times' inside good res.1 ((λ e. absurd (false≢true e)), (λ none. absurd none)) (λ x e. absurd (none_some e)) in
         let P : List (Run K) → Type 0 = λ rs. Stands t (taken t B (call.Release r)) (state (stage.Open o) tracks rs connections settings times' (set slips r None)) in
-        (record { answers = passes_on res.0; carried = refl; named = tt }, subst P (ap (λ q. (hold-memory t m q None).runs) (sym mine.1) ∙ sym written) base)
+        (record { answers = passes_on res.0; carried = refl; named = tt }, subst P (ap (λ q. (hold_memory t m q None).runs) (sym mine.1) ∙ sym written) base)
 
-    pub release_refused : (f : PlanFault) (times' : List K) → Reckons t (open-call-rows t w m times ++ release-rows t was o.number s.plan s.run) (register_of t (hold-memory t m s.run None)) times times' ring ring' (failed (Unit {0}) f) → Told t l B (call.Release r) (Err (fault.Plan f)) ring' trial
+    pub release_refused : (f : PlanFault) (times' : List K) → Reckons t (open_call_rows t w m times ++ release_rows t was o.number s.plan s.run) (register_of t (hold_memory t m s.run None)) times times' ring ring' (failed (Unit {0}) f) → Told t l B (call.Release r) (Err (fault.Plan f)) ring' trial
     release_refused f times' k =
-        let res = reckoned_refused t (open-call-rows t w m times ++ release-rows t was o.number s.plan s.run) [] [] (register_of t (hold-memory t m s.run None)) (hold t B.register r None) release_off tt (λ _. freed) times times' ring ring' tt (Unit {0}) f k in
+        let res = reckoned_refused t (open_call_rows t w m times ++ release_rows t was o.number s.plan s.run) [] [] (register_of t (hold_memory t m s.run None)) (hold t B.register r None) release_off tt (λ _. freed) times times' ring ring' tt (Unit {0}) f k in
         record { answers = first_on _ _ res.0; carried = tt; named = res.1 }
 
   -- no slip at hand
@@ -234,14 +234,14 @@ module _ {K : Type 0} (t : Time K) (laws : Laws t) (o : Open) (tracks : List (Tr
   hold_again r until s slot f (inl time) =
       let z = (mine r s slot).2 in
       let P : PlanFault → Type 0 = λ x. Told t l B (call.Hold r until) (Err (fault.Plan x)) ring' trial in
-      subst P (sym time.1) (record { answers = fronts_first t laws o tracks runs connections settings times slips B st records long-times l listed ring ring' trial (hold-rows t B.register r until ++ ring-rows t (hold t B.register r (Some until))) 4 0 (inr ((λ past. omega arith), inl (time.0, refl, refl))); carried = tt; named = tt })
+      subst P (sym time.1) (record { answers = fronts_first t laws o tracks runs connections settings times slips B st records long-times l listed ring ring' trial (hold_rows t B.register r until ++ ring_rows t (hold t B.register r (Some until))) 4 0 (inr ((λ past. omega arith), inl (time.0, refl, refl))); carried = tt; named = tt })
   hold_again r until s slot f (inr held) =
       let z = (mine r s slot).2 in
       let P : PlanFault → Type 0 = λ x. Told t l B (call.Hold r until) (Err (fault.Plan x)) ring' trial in
-      subst P (sym held.1) (record { answers = fronts_first t laws o tracks runs connections settings times slips B st records long-times l listed ring ring' trial (hold-rows t B.register r until ++ ring-rows t (hold t B.register r (Some until))) 8 0 (inr ((λ past. omega arith), inr (held.0, inl ((st.held yes_open r z).0 (full r s slot), refl, refl)))); carried = tt; named = tt })
+      subst P (sym held.1) (record { answers = fronts_first t laws o tracks runs connections settings times slips B st records long-times l listed ring ring' trial (hold_rows t B.register r until ++ ring_rows t (hold t B.register r (Some until))) 8 0 (inr ((λ past. omega arith), inr (held.0, inl ((st.held yes_open r z).0 (full r s slot), refl, refl)))); carried = tt; named = tt })
 
-  pub hold_refused : (r : ℕ) (until : K) (f : PlanFault) (times' : List K) → Reckons t (open-call-rows t w m times ++ hold-rows t was r until) (register_of t (hold-memory t m r (Some until))) times times' ring ring' (failed Slip f) → Told t l B (call.Hold r until) (Err (fault.Plan f)) ring' trial
+  pub hold_refused : (r : ℕ) (until : K) (f : PlanFault) (times' : List K) → Reckons t (open_call_rows t w m times ++ hold_rows t was r until) (register_of t (hold_memory t m r (Some until))) times times' ring ring' (failed Slip f) → Told t l B (call.Hold r until) (Err (fault.Plan f)) ring' trial
   hold_refused r until f times' k =
       let a = long_was in
-      let res = reckoned_refused t (open-call-rows t w m times) (hold-rows t was r until) (hold-rows t B.register r until) (register_of t (hold-memory t m r (Some until))) (hold t B.register r (Some until)) off (hold_match t was B.register st.same r until) (λ fine. held_same r (Some until) (let known = (hold_passed t was r until fine).known in omega arith)) times times' ring ring' (hold_under t was r until) Slip f k in
-      record { answers = fronts_first t laws o tracks runs connections settings times slips B st records long-times l listed ring ring' trial (hold-rows t B.register r until ++ ring-rows t (hold t B.register r (Some until))) _ _ res.0; carried = tt; named = res.1 }
+      let res = reckoned_refused t (open_call_rows t w m times) (hold_rows t was r until) (hold_rows t B.register r until) (register_of t (hold_memory t m r (Some until))) (hold t B.register r (Some until)) off (hold_match t was B.register st.same r until) (λ fine. held_same r (Some until) (let known = (hold_passed t was r until fine).known in omega arith)) times times' ring ring' (hold_under t was r until) Slip f k in
+      record { answers = fronts_first t laws o tracks runs connections settings times slips B st records long-times l listed ring ring' trial (hold_rows t B.register r until ++ ring_rows t (hold t B.register r (Some until))) _ _ res.0; carried = tt; named = res.1 }

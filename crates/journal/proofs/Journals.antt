@@ -15,22 +15,22 @@ use Rattle.journal.specs.declared.calls.Plan.TheVariants as stage
 use Rattle.journal.specs.Books.{Books, Reply, after, registered, new}
 use Rattle.journal.proofs.Holds.{get_d_map}
 use Rattle.journal.specs.Rows.{Sizes, sizes}
-use Rattle.journal.specs.Promise.{Told, Told-all, State, Stands, Step, Steps, state, call-of}
+use Rattle.journal.specs.Promise.{Told, ToldAll, State, Stands, Step, Steps, state, call_of}
 
 module _ {K : Type 0} where
   pub registered_more : (t : Time K) (B : Books K) (xs : List (Line K)) (x : Line K) → registered t B (xs ++ x ∷ []) ≡ after t (registered t B xs) x.call x.reply
   registered_more t B [] x = refl
   registered_more t B (y ∷ ys) x = registered_more t (after t B y.call y.reply) ys x
 
-  pub told_more : (t : Time K) (l : Sizes) (B : Books K) (xs : List (Line K)) (x : Line K) (ring : List ℕ) (trial : List K) → Told-all t l B xs → Told t l (registered t B xs) x.call x.reply ring trial → Told-all t l B (xs ++ x ∷ [])
+  pub told_more : (t : Time K) (l : Sizes) (B : Books K) (xs : List (Line K)) (x : Line K) (ring : List ℕ) (trial : List K) → ToldAll t l B xs → Told t l (registered t B xs) x.call x.reply ring trial → ToldAll t l B (xs ++ x ∷ [])
   told_more t l B [] x ring trial h k = ((ring, (trial, k)), tt)
   told_more t l B (y ∷ ys) x ring trial h k = (h.0, told_more t l (after t B y.call y.reply) ys x ring trial h.1 k)
 
   -- a line that keeps its call keeps all calls
-  pub calls_kept : (xs : List (Line K)) (i : ℕ) (d x : Line K) → call-of x ≡ call-of (get_or xs i d) → map call-of (set xs i x) ≡ map call-of xs
+  pub calls_kept : (xs : List (Line K)) (i : ℕ) (d x : Line K) → call_of x ≡ call_of (get_or xs i d) → map call_of (set xs i x) ≡ map call_of xs
   calls_kept [] i d x e = refl
-  calls_kept (y ∷ ys) zero d x e = ap {B = List _} (λ (z : Call K). z ∷ map call-of ys) e
-  calls_kept (y ∷ ys) (suc i) d x e = ap {B = List _} (λ zs. call-of y ∷ zs) (calls_kept ys i d x e)
+  calls_kept (y ∷ ys) zero d x e = ap {B = List _} (λ (z : Call K). z ∷ map call_of ys) e
+  calls_kept (y ∷ ys) (suc i) d x e = ap {B = List _} (λ zs. call_of y ∷ zs) (calls_kept ys i d x e)
 
   -- what a whole list keeps, one step further
   pub step_more : (t : Time K) (l m : Sizes) (xs : List (Line K)) (i : ℕ) (x : Line K) (ring : List ℕ) (trial : List K) (s₀ s s' : State K) → i < length xs → m ≡ l
@@ -41,7 +41,7 @@ module _ {K : Type 0} where
       let T : Sizes → Type 0 = λ k. Told t k (registered t B (take i xs)) x.call x.reply ring trial in
       let here : Told t l (registered t B (take i xs)) x.call x.reply ring trial = subst T e both.0 in
       let S : Books K → Type 0 = λ b. Stands t b s' in
-      let P : List (Line K) → Type 0 = λ ys. Told-all t l B ys × Stands t (registered t B ys) s' in
+      let P : List (Line K) → Type 0 = λ ys. ToldAll t l B ys × Stands t (registered t B ys) s' in
       subst P (sym (take_more_set xs i x h))
       (told_more t l B (take i xs) x ring trial so_far.0 here, subst S (sym (registered_more t B (take i xs) x)) both.1)
 

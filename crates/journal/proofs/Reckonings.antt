@@ -9,11 +9,11 @@ use Rattle.network.proofs.Refusals.{Under, first_front}
 use Rattle.rules.proofs.Rows.{passed_front}
 use Rattle.journal.proofs.Told.{none_told}
 use Rattle.records.specs.Register.{Register}
-use Rattle.force.specs.Constraints.{in-force}
+use Rattle.force.specs.Constraints.{in_force}
 use Rattle.rules.specs.declared.faults.PlanFault.{PlanFault}
 use Rattle.rules.specs.declared.faults.PlanFault.TheVariants as refused
 use Rattle.rules.specs.Faults.{plan_number, plan_place}
-use Rattle.plan.specs.Calls.{ring-rows, RingLeft, Reckons}
+use Rattle.plan.specs.Calls.{ring_rows, RingLeft, Reckons}
 use Rattle.plan.proofs.Reckoned.{failed, taken}
 use Rattle.registers.specs.Steps.{Same}
 use Rattle.registers.proofs.Matches.{Matching, matching_refl, matching_more, matching_first}
@@ -58,17 +58,17 @@ module _ {K : Type 0} (t : Time K) where
 
   -- the rows of a call stand behind those of every call; its register in memory says the same as that of the books where they pass
   module _ (fronts own own' : List Row) (R R' : Register K) (off : Passed fronts) (match : Matching own own') (same : Passed own → Same t R R') (was times : List K) (ring_was ring : List ℕ) where
-    pub reckoned_taken : (X : Type 0) (x : X) → Reckons t (fronts ++ own) R was times ring_was ring (taken X x) → Passed (own' ++ ring-rows t R') × Least t (in-force t R') (at t times)
+    pub reckoned_taken : (X : Type 0) (x : X) → Reckons t (fronts ++ own) R was times ring_was ring (taken X x) → Passed (own' ++ ring_rows t R') × Least t (in_force t R') (at t times)
     reckoned_taken X x k =
-        let fine = passed_front own (ring-rows t R) (passed_drop fronts own (ring-rows t R) k.answers) in
+        let fine = passed_front own (ring_rows t R) (passed_drop fronts own (ring_rows t R) k.answers) in
         let there = reckons_there t R R' (same fine) (fronts ++ own) (fronts ++ own') was times ring_was ring (taken X x) (matching_more fronts fronts own own' (matching_refl fronts) (λ _. match)) k in
-        (passed_drop fronts own' (ring-rows t R') there.answers, there.shows.0)
+        (passed_drop fronts own' (ring_rows t R') there.answers, there.shows.0)
 
-    pub reckoned_refused : Under 12 own → (X : Type 0) (f : PlanFault) → Reckons t (fronts ++ own) R was times ring_was ring (failed X f) → First (own' ++ ring-rows t R') (plan_number f) (plan_place f) × RingTold t R' ring (Err (fault.Plan f))
+    pub reckoned_refused : Under 12 own → (X : Type 0) (f : PlanFault) → Reckons t (fronts ++ own) R was times ring_was ring (failed X f) → First (own' ++ ring_rows t R') (plan_number f) (plan_place f) × RingTold t R' ring (Err (fault.Plan f))
     reckoned_refused under X f k =
-        elim (first_split own (row 12 0 (NoTable t (in-force t R))) (plan_number f) (plan_place f) (first_drop fronts own (ring-rows t R) _ _ off k.answers)) [
-          | inl first ↦ (first_front own' (ring-rows t R') _ _ (matching_first own own' match _ _ first), none_told t R' ring own under f first)
+        elim (first_split own (row 12 0 (NoTable t (in_force t R))) (plan_number f) (plan_place f) (first_drop fronts own (ring_rows t R) _ _ off k.answers)) [
+          | inl first ↦ (first_front own' (ring_rows t R') _ _ (matching_first own own' match _ _ first), none_told t R' ring own under f first)
           | inr fine ↦ (
               let there = reckons_there t R R' (same fine) (fronts ++ own) (fronts ++ own') was times ring_was ring (failed X f) (matching_more fronts fronts own own' (matching_refl fronts) (λ _. match)) k in
-              (first_drop fronts own' (ring-rows t R') _ _ off there.answers, ring_told R' ring_was ring f there.names))
+              (first_drop fronts own' (ring_rows t R') _ _ off there.answers, ring_told R' ring_was ring f there.names))
         ]

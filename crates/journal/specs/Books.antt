@@ -3,7 +3,7 @@
 use Rattle.std.specs.Prelude.{ℕ, Bool, true, false, List, [], ◌∷◌, replicate, Some, None, Ok, Err, Option, Result, slice_set}
 use Rattle.kinds.specs.Time.{Time}
 use Rattle.records.specs.Register.{Register}
-use Rattle.registers.specs.Steps.{empty, enter-track, enter-run, enter-connection, set-switch, report, hold}
+use Rattle.registers.specs.Steps.{empty, enter_track, enter_run, enter_connection, set_switch, report, hold}
 use Rattle.journal.specs.declared.calls.Call.{Call}
 use Rattle.journal.specs.declared.calls.Call.TheVariants as call
 use Rattle.journal.specs.declared.calls.Answer.{Answer}
@@ -26,19 +26,19 @@ module _ {K : Type 0} where
   abbrev pub new : ℕ → ℕ → Books K
   new number slots = record { number = number; opened = false; register = empty; slips = replicate slots false }
 
-  abbrev pub with-register : Books K → Register K → Books K
-  with-register B R = record { number = B.number; opened = B.opened; register = R; slips = B.slips }
+  abbrev pub with_register : Books K → Register K → Books K
+  with_register B R = record { number = B.number; opened = B.opened; register = R; slips = B.slips }
 
   module _ (t : Time K) where
     -- the books as they would stand if the call were taken
     abbrev pub taken : Books K → Call K → Books K
-    taken B (call.Track x) = with-register B (enter-track B.register x)
-    taken B (call.Run x) = with-register B (enter-run B.register x)
-    taken B (call.Connection x) = with-register B (enter-connection B.register x)
-    taken B (call.Preset s setting) = with-register B (set-switch B.register s setting)
+    taken B (call.Track x) = with_register B (enter_track B.register x)
+    taken B (call.Run x) = with_register B (enter_run B.register x)
+    taken B (call.Connection x) = with_register B (enter_connection B.register x)
+    taken B (call.Preset s setting) = with_register B (set_switch B.register s setting)
     taken B call.Open = record { number = B.number; opened = true; register = B.register; slips = B.slips }
-    taken B (call.Report v at) = with-register B (report t B.register v at)
-    taken B (call.Turn s setting) = with-register B (set-switch B.register s setting)
+    taken B (call.Report v at) = with_register B (report t B.register v at)
+    taken B (call.Turn s setting) = with_register B (set_switch B.register s setting)
     taken B (call.Hold r until) = record { number = B.number; opened = B.opened; register = hold t B.register r (Some until); slips = slice_set B.slips r true }
     taken B (call.Release r) = record { number = B.number; opened = B.opened; register = hold t B.register r None; slips = slice_set B.slips r false }
     taken B (call.Trial s setting) = B

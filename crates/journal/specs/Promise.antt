@@ -11,14 +11,14 @@ use Rattle.records.specs.declared.Connection.{Connection}
 use Rattle.records.specs.Records.{run_at}
 use Rattle.records.specs.Register.{Register, Memory, register_of}
 use Rattle.records.specs.Stored.{Stored, Drafted}
-use Rattle.force.specs.Constraints.{in-force, arcs-in-force}
-use Rattle.cost.specs.Cost.{delay-cost}
+use Rattle.force.specs.Constraints.{in_force, arcs_in_force}
+use Rattle.cost.specs.Cost.{delay_cost_lem}
 use Rattle.rules.specs.declared.faults.PlanFault.TheVariants as refused
-use Rattle.rules.specs.Rows.{Given, setting-of}
+use Rattle.rules.specs.Rows.{Given, setting_of_lem}
 use Rattle.plan.specs.declared.states.Slip.{Slip}
-use Rattle.plan.specs.States.{draft-memory, open-memory}
+use Rattle.plan.specs.States.{draft_memory, open_memory}
 use Rattle.plan.specs.Calls.{Lengths, lengths}
-use Rattle.registers.specs.Steps.{Same, set-switch}
+use Rattle.registers.specs.Steps.{Same, set_switch}
 use Rattle.journal.specs.declared.calls.Call.{Call}
 use Rattle.journal.specs.declared.calls.Call.TheVariants as call
 use Rattle.journal.specs.declared.calls.Answer.{Answer}
@@ -54,12 +54,12 @@ module _ {K : Type 0} where
   abbrev pub state : Plan → List (Track K) → List (Run K) → List (Connection K) → List ℕ → List K → List (Option Slip) → State K
   state p tracks runs connections settings times slips = record { plan = p; tracks = tracks; runs = runs; connections = connections; settings = settings; times = times; slips = slips }
 
-  abbrev pub memory-in : Plan → List (Track K) → List (Run K) → List (Connection K) → List ℕ → Memory K
-  memory-in (plan.Draft d) tracks runs connections settings = draft-memory d tracks runs connections settings
-  memory-in (plan.Open o) tracks runs connections settings = open-memory o tracks runs connections settings
+  abbrev pub memory_in : Plan → List (Track K) → List (Run K) → List (Connection K) → List ℕ → Memory K
+  memory_in (plan.Draft d) tracks runs connections settings = draft_memory d tracks runs connections settings
+  memory_in (plan.Open o) tracks runs connections settings = open_memory o tracks runs connections settings
 
-  abbrev pub memory-of : State K → Memory K
-  memory-of s = memory-in s.plan s.tracks s.runs s.connections s.settings
+  abbrev pub memory_of : State K → Memory K
+  memory_of s = memory_in s.plan s.tracks s.runs s.connections s.settings
 
   module _ (t : Time K) where
     -- What a taken call answers. A trial's times stand in trial memory.
@@ -73,36 +73,36 @@ module _ {K : Type 0} where
     Carries B (call.Turn s setting) a trial = a ≡ answer.Done
     Carries B (call.Hold r until) a trial = a ≡ answer.Done
     Carries B (call.Release r) a trial = a ≡ answer.Done
-    Carries B (call.Trial s setting) a trial = Least t (in-force t (set-switch B.register s setting)) (at t trial) × (a ≡ answer.Cost (delay-cost t (set-switch B.register s setting) (at t trial)))
-    Carries B (call.Time v) a trial = (time : ℕ → K) × Least t (in-force t B.register) time × (a ≡ answer.Time (time v))
-    Carries B (call.Setting s) a trial = a ≡ answer.Setting (setting-of t B.register s)
-    Carries B call.Cost a trial = (time : ℕ → K) × Least t (in-force t B.register) time × (a ≡ answer.Cost (delay-cost t B.register time))
+    Carries B (call.Trial s setting) a trial = Least t (in_force t (set_switch B.register s setting)) (at t trial) × (a ≡ answer.Cost (delay_cost_lem t (set_switch B.register s setting) (at t trial)))
+    Carries B (call.Time v) a trial = (time : ℕ → K) × Least t (in_force t B.register) time × (a ≡ answer.Time (time v))
+    Carries B (call.Setting s) a trial = a ≡ answer.Setting (setting_of_lem t B.register s)
+    Carries B call.Cost a trial = (time : ℕ → K) × Least t (in_force t B.register) time × (a ≡ answer.Cost (delay_cost_lem t B.register time))
 
     abbrev pub Carried : Books K → Call K → Reply K → List K → Type 0
     Carried B c (Ok a) trial = Carries B c a trial
     Carried B c (Err f) trial = Unit {0}
 
     -- the register that a call puts in force, a trial with its setting changed
-    abbrev pub to-force : Books K → Call K → Register K
-    to-force B (call.Track x) = (taken t B (call.Track x)).register
-    to-force B (call.Run x) = (taken t B (call.Run x)).register
-    to-force B (call.Connection x) = (taken t B (call.Connection x)).register
-    to-force B (call.Preset s setting) = (taken t B (call.Preset s setting)).register
-    to-force B call.Open = B.register
-    to-force B (call.Report v x) = (taken t B (call.Report v x)).register
-    to-force B (call.Turn s setting) = (taken t B (call.Turn s setting)).register
-    to-force B (call.Hold r until) = (taken t B (call.Hold r until)).register
-    to-force B (call.Release r) = (taken t B (call.Release r)).register
-    to-force B (call.Trial s setting) = set-switch B.register s setting
-    to-force B (call.Time v) = B.register
-    to-force B (call.Setting s) = B.register
-    to-force B call.Cost = B.register
+    abbrev pub to_force : Books K → Call K → Register K
+    to_force B (call.Track x) = (taken t B (call.Track x)).register
+    to_force B (call.Run x) = (taken t B (call.Run x)).register
+    to_force B (call.Connection x) = (taken t B (call.Connection x)).register
+    to_force B (call.Preset s setting) = (taken t B (call.Preset s setting)).register
+    to_force B call.Open = B.register
+    to_force B (call.Report v x) = (taken t B (call.Report v x)).register
+    to_force B (call.Turn s setting) = (taken t B (call.Turn s setting)).register
+    to_force B (call.Hold r until) = (taken t B (call.Hold r until)).register
+    to_force B (call.Release r) = (taken t B (call.Release r)).register
+    to_force B (call.Trial s setting) = set_switch B.register s setting
+    to_force B (call.Time v) = B.register
+    to_force B (call.Setting s) = B.register
+    to_force B call.Cost = B.register
 
     -- a ring that is told is one of what the call was to put in force
     abbrev pub RingTold : Register K → List ℕ → Reply K → Type 0
     RingTold R ring (Ok a) = Unit {0}
     RingTold R ring (Err fault.Misuse) = Unit {0}
-    RingTold R ring (Err (fault.Plan (refused.Network (network.Ring count)))) = Names t (arcs-in-force t R) (take count ring)
+    RingTold R ring (Err (fault.Plan (refused.Network (network.Ring count)))) = Names t (arcs_in_force t R) (take count ring)
     RingTold R ring (Err (fault.Plan (refused.Network network.Length))) = Unit {0}
     RingTold R ring (Err (fault.Plan (refused.Network (network.Event place)))) = Unit {0}
     RingTold R ring (Err (fault.Plan (refused.Network network.Floor))) = Unit {0}
@@ -124,17 +124,17 @@ module _ {K : Type 0} where
     pub record Told (l : Sizes) (B : Books K) (c : Call K) (r : Reply K) (ring : List ℕ) (trial : List K) : Type 0 where
       pub answers : Answers call_number call_place (call_rows t l B c) r
       pub carried : Carried B c r trial
-      pub named : RingTold (to-force B c) ring r
+      pub named : RingTold (to_force B c) ring r
 
     -- The memories keep the books; an open plan shows the least times of what is in force; and a slip is kept just for each run that is
     -- held.
     pub record Stands (B : Books K) (s : State K) : Type 0 where
       pub number : number_in s.plan ≡ B.number
       pub opened : opened_in s.plan ≡ B.opened
-      pub stored : Stored t (memory-of s)
-      pub same : Same t (register_of t (memory-of s)) B.register
+      pub stored : Stored t (memory_of s)
+      pub same : Same t (register_of t (memory_of s)) B.register
       pub drafted : B.opened ≡ false → Drafted t B.register × ((r : ℕ) → slice_index_or B.slips r false ≡ false)
-      pub shows : B.opened ≡ true → Least t (in-force t B.register) (at t s.times)
+      pub shows : B.opened ≡ true → Least t (in_force t B.register) (at t s.times)
       pub slips : map is_some s.slips ≡ B.slips
       pub held : B.opened ≡ true → (r : ℕ) → r < length B.register.runs → (slice_index_or B.slips r false ≡ true → Given (run_at t B.register.runs r).hold) × (Given (run_at t B.register.runs r).hold → slice_index_or B.slips r false ≡ true)
       pub own : (r : ℕ) (x : Slip) → slice_index_or s.slips r None ≡ Some x → (x.plan ≡ B.number) × (x.run ≡ r) × (r < length B.register.runs)
@@ -145,14 +145,14 @@ module _ {K : Type 0} where
     Step l s c r ring trial s' = (B : Books K) → Stands B s → Told l B c r ring trial × Stands (after t B c r) s'
 
     -- every reply of a journal tells the truth of the books as they stood before its call, with what ring and trial memory then held
-    abbrev pub Told-all : Sizes → Books K → List (Line K) → Type 0
-    Told-all l B [] = Unit {0}
-    Told-all l B (x ∷ xs) = ((ring : List ℕ) × ((trial : List K) × Told l B x.call x.reply ring trial)) × Told-all l (after t B x.call x.reply) xs
+    abbrev pub ToldAll : Sizes → Books K → List (Line K) → Type 0
+    ToldAll l B [] = Unit {0}
+    ToldAll l B (x ∷ xs) = ((ring : List ℕ) × ((trial : List K) × Told l B x.call x.reply ring trial)) × ToldAll l (after t B x.call x.reply) xs
 
     -- a whole list of calls, taken or refused: whatever books the memories stood for, every reply tells the truth, and the memories then
     -- stand for the books after all of them
     abbrev pub Steps : Sizes → State K → List (Line K) → State K → Type 0
-    Steps l s lines s' = (B : Books K) → Stands B s → Told-all l B lines × Stands (registered t B lines) s'
+    Steps l s lines s' = (B : Books K) → Stands B s → ToldAll l B lines × Stands (registered t B lines) s'
 
-  abbrev pub call-of : Line K → Call K
-  call-of x = x.call
+  abbrev pub call_of : Line K → Call K
+  call_of x = x.call

@@ -4,9 +4,9 @@ use Rattle.std.specs.Prelude.{◌≡◌, ℕ, Bool, true, false, List, [], ◌�
 use Rattle.kinds.specs.Time.{Time}
 use Rattle.network.specs.Refusals.{Row, row}
 use Rattle.records.specs.Register.{Register, Memory}
-use Rattle.rules.specs.Rows.{RecordsListed, track-rows, run-rows, connection-rows, switch-rows, setting-rows, turning-rows, event-rows, report-rows, hold-rows}
-use Rattle.plan.specs.Calls.{Lengths, Listed, ring-rows}
-use Rattle.registers.specs.Steps.{set-switch, report, hold}
+use Rattle.rules.specs.Rows.{RecordsListed, track_rows, run_rows, connection_rows, switch_rows, setting_rows, turning_rows, event_rows, report_rows, hold_rows}
+use Rattle.plan.specs.Calls.{Lengths, Listed, ring_rows}
+use Rattle.registers.specs.Steps.{set_switch, report, hold}
 use Rattle.journal.specs.declared.calls.Call.{Call}
 use Rattle.journal.specs.declared.calls.Call.TheVariants as call
 use Rattle.journal.specs.Books.{Books}
@@ -42,16 +42,16 @@ module _ {K : Type 0} (t : Time K) (l : Sizes) (B : Books K) where
   controlling own = row 0 0 (B.opened ≡ false) ∷ row 1 0 (AllListed l → ⊥) ∷ own
 
   abbrev pub call_rows : Call K → List Row
-  call_rows (call.Track x) = drafting (track-rows t B.register x)
-  call_rows (call.Run x) = drafting (run-rows t B.register x)
-  call_rows (call.Connection x) = drafting (connection-rows t B.register x)
-  call_rows (call.Preset s setting) = drafting (setting-rows t B.register s setting)
-  call_rows call.Open = drafting (ring-rows t B.register)
-  call_rows (call.Report v at) = controlling (report-rows t B.register v at ++ ring-rows t (report t B.register v at))
-  call_rows (call.Turn s setting) = controlling (turning-rows t B.register s setting ++ ring-rows t (set-switch B.register s setting))
-  call_rows (call.Hold r until) = controlling (hold-rows t B.register r until ++ ring-rows t (hold t B.register r (Some until)))
-  call_rows (call.Release r) = row 0 0 (B.opened ≡ false) ∷ row 0 0 (slice_index_or B.slips r false ≡ false) ∷ row 1 0 (AllListed l → ⊥) ∷ ring-rows t (hold t B.register r None)
-  call_rows (call.Trial s setting) = controlling (turning-rows t B.register s setting ++ ring-rows t (set-switch B.register s setting))
-  call_rows (call.Time v) = controlling (event-rows t B.register v)
-  call_rows (call.Setting s) = row 1 0 (AllListed l → ⊥) ∷ switch-rows t B.register s
+  call_rows (call.Track x) = drafting (track_rows t B.register x)
+  call_rows (call.Run x) = drafting (run_rows t B.register x)
+  call_rows (call.Connection x) = drafting (connection_rows t B.register x)
+  call_rows (call.Preset s setting) = drafting (setting_rows t B.register s setting)
+  call_rows call.Open = drafting (ring_rows t B.register)
+  call_rows (call.Report v at) = controlling (report_rows t B.register v at ++ ring_rows t (report t B.register v at))
+  call_rows (call.Turn s setting) = controlling (turning_rows t B.register s setting ++ ring_rows t (set_switch B.register s setting))
+  call_rows (call.Hold r until) = controlling (hold_rows t B.register r until ++ ring_rows t (hold t B.register r (Some until)))
+  call_rows (call.Release r) = row 0 0 (B.opened ≡ false) ∷ row 0 0 (slice_index_or B.slips r false ≡ false) ∷ row 1 0 (AllListed l → ⊥) ∷ ring_rows t (hold t B.register r None)
+  call_rows (call.Trial s setting) = controlling (turning_rows t B.register s setting ++ ring_rows t (set_switch B.register s setting))
+  call_rows (call.Time v) = controlling (event_rows t B.register v)
+  call_rows (call.Setting s) = row 1 0 (AllListed l → ⊥) ∷ switch_rows t B.register s
   call_rows call.Cost = controlling []

@@ -4,8 +4,8 @@ use Rattle.kinds.specs.Time.{Time}
 use Rattle.network.specs.declared.faults.NetworkFault.TheVariants as network
 use Rattle.network.specs.Network.{Table, Meets}
 use Rattle.network.specs.Reckoning.{at}
-use Rattle.force.specs.Constraints.{in-force}
-use Rattle.cost.specs.Cost.{delay-cost}
+use Rattle.force.specs.Constraints.{in_force}
+use Rattle.cost.specs.Cost.{delay_cost_lem}
 use Rattle.rules.specs.declared.faults.PlanFault.TheVariants as refused
 use Rattle.journal.specs.declared.calls.Call.{Call}
 use Rattle.journal.specs.declared.calls.Call.TheVariants as call
@@ -41,5 +41,5 @@ module _ {K : Type 0} where
     -- no table that meets what is in force costs less than the times shown
     abbrev pub ShownCostsLeast : Type 0
     ShownCostsLeast =
-        (B : Books K) (s : State K) → Stands t B s → B.opened ≡ true → (other : ℕ → K) → Table t (in-force t B.register) other → Meets t (in-force t B.register) other
-        → delay-cost t B.register (at t s.times) ≤ delay-cost t B.register other
+        (B : Books K) (s : State K) → Stands t B s → B.opened ≡ true → (other : ℕ → K) → Table t (in_force t B.register) other → Meets t (in_force t B.register) other
+        → delay_cost_lem t B.register (at t s.times) ≤ delay_cost_lem t B.register other

@@ -2,7 +2,7 @@
 ghost use Rattle.std.specs.Prelude.{◌≡◌, ℕ, List, length, Option};
 ghost use Rattle.plan.specs.declared.states.Slip.{Slip as Token};
 ghost use Rattle.rules.specs.Rows.{RecordsListed};
-ghost use Rattle.plan.specs.States.{open-memory};
+ghost use Rattle.plan.specs.States.{open_memory};
 ghost use Rattle.plan.specs.Calls.{Listed, lengths};
 ghost use Rattle.rules.specs.declared.switches.Switch.TheVariants as way;
 ghost use Rattle.journal.specs.declared.calls.Call.TheVariants as named;
@@ -37,7 +37,7 @@ pub(crate) fn open_report<K: Kind>(
     event: u16,
     at: K,
 ) -> Result<Answer<K>, CallFault>
-    requires records { RecordsListed (open-memory plan.now tracks.now runs.old connections.now settings.now) }
+    requires records { RecordsListed (open_memory plan.now tracks.now runs.old connections.now settings.now) }
     requires listed { Listed (lengths (length times.old) (length ring.old) (length counts.old) (length sums.old) (length befores.old) (length floors.old) (length arcs.old) (length tables.old) (length marks.old)) }
     ensures { (l : Sizes) (slips : List (Option Token)) (trial : List K) → AllListed l → Step K.Kind.time l (state (stage.Open plan.now) tracks.now runs.old connections.now settings.now times.old slips) (named.Report event at) result ring.new trial (state (stage.Open plan.now) tracks.now runs.new connections.now settings.now times.new slips) }
 {
@@ -83,7 +83,7 @@ pub(crate) fn open_order<K: Kind>(
     j: u16,
     setting: u8,
 ) -> Result<Answer<K>, CallFault>
-    requires records { RecordsListed (open-memory plan.now tracks.now runs.now connections.now settings.old) }
+    requires records { RecordsListed (open_memory plan.now tracks.now runs.now connections.now settings.old) }
     requires listed { Listed (lengths (length times.old) (length ring.old) (length counts.old) (length sums.old) (length befores.old) (length floors.old) (length arcs.old) (length tables.old) (length marks.old)) }
     ensures { (l : Sizes) (slips : List (Option Token)) (trial : List K) → AllListed l → Step K.Kind.time l (state (stage.Open plan.now) tracks.now runs.now connections.now settings.old times.old slips) (named.Turn (way.Order i j) setting) result ring.new trial (state (stage.Open plan.now) tracks.now runs.now connections.now settings.new times.new slips) }
 {
@@ -129,7 +129,7 @@ pub(crate) fn open_connect<K: Kind>(
     c: u16,
     setting: u8,
 ) -> Result<Answer<K>, CallFault>
-    requires records { RecordsListed (open-memory plan.now tracks.now runs.now connections.now settings.old) }
+    requires records { RecordsListed (open_memory plan.now tracks.now runs.now connections.now settings.old) }
     requires listed { Listed (lengths (length times.old) (length ring.old) (length counts.old) (length sums.old) (length befores.old) (length floors.old) (length arcs.old) (length tables.old) (length marks.old)) }
     ensures { (l : Sizes) (slips : List (Option Token)) (trial : List K) → AllListed l → Step K.Kind.time l (state (stage.Open plan.now) tracks.now runs.now connections.now settings.old times.old slips) (named.Turn (way.Connection c) setting) result ring.new trial (state (stage.Open plan.now) tracks.now runs.now connections.now settings.new times.new slips) }
 {
@@ -176,7 +176,7 @@ pub(crate) fn open_trial<K: Kind>(
     setting: u8,
 ) -> Result<Answer<K>, CallFault>
     requires shown { length times.now ≡ 1024 }
-    requires records { RecordsListed (open-memory plan.now tracks.now runs.now connections.now settings.old) }
+    requires records { RecordsListed (open_memory plan.now tracks.now runs.now connections.now settings.old) }
     requires listed { Listed (lengths (length trial.old) (length ring.old) (length counts.old) (length sums.old) (length befores.old) (length floors.old) (length arcs.old) (length tables.old) (length marks.old)) }
     ensures { (l : Sizes) (slips : List (Option Token)) → AllListed l → Step K.Kind.time l (state (stage.Open plan.now) tracks.now runs.now connections.now settings.old times.now slips) (named.Trial switch setting) result ring.new trial.new (state (stage.Open plan.now) tracks.now runs.now connections.now settings.new times.now slips) }
 {
@@ -224,7 +224,7 @@ pub(crate) fn open_hold<K: Kind>(
     until: K,
 ) -> Result<Answer<K>, CallFault>
     requires slots { length slips.old ≡ 512 }
-    requires records { RecordsListed (open-memory plan.now tracks.now runs.old connections.now settings.now) }
+    requires records { RecordsListed (open_memory plan.now tracks.now runs.old connections.now settings.now) }
     requires listed { Listed (lengths (length times.old) (length ring.old) (length counts.old) (length sums.old) (length befores.old) (length floors.old) (length arcs.old) (length tables.old) (length marks.old)) }
     ensures { (l : Sizes) (trial : List K) → AllListed l → Step K.Kind.time l (state (stage.Open plan.now) tracks.now runs.old connections.now settings.now times.old slips.old) (named.Hold run until) result ring.new trial (state (stage.Open plan.now) tracks.now runs.new connections.now settings.now times.new slips.new) }
 {
@@ -279,7 +279,7 @@ pub(crate) fn open_release<K: Kind>(
     run: u16,
 ) -> Result<Answer<K>, CallFault>
     requires slots { length slips.old ≡ 512 }
-    requires records { RecordsListed (open-memory plan.now tracks.now runs.old connections.now settings.now) }
+    requires records { RecordsListed (open_memory plan.now tracks.now runs.old connections.now settings.now) }
     requires listed { Listed (lengths (length times.old) (length ring.old) (length counts.old) (length sums.old) (length befores.old) (length floors.old) (length arcs.old) (length tables.old) (length marks.old)) }
     ensures { (l : Sizes) (trial : List K) → AllListed l → Step K.Kind.time l (state (stage.Open plan.now) tracks.now runs.old connections.now settings.now times.old slips.old) (named.Release run) result ring.new trial (state (stage.Open plan.now) tracks.now runs.new connections.now settings.now times.new slips.new) }
 {
@@ -321,7 +321,7 @@ pub(crate) fn open_time<K: Kind>(
     times: &[K],
     event: u16,
 ) -> Result<Answer<K>, CallFault>
-    requires records { RecordsListed (open-memory plan.now tracks.now runs.now connections.now settings.now) }
+    requires records { RecordsListed (open_memory plan.now tracks.now runs.now connections.now settings.now) }
     requires shown { length times.now ≡ 1024 }
     ensures { (l : Sizes) (slips : List (Option Token)) (ring : List ℕ) (trial : List K) → AllListed l → Step K.Kind.time l (state (stage.Open plan.now) tracks.now runs.now connections.now settings.now times.now slips) (named.Time event) result ring trial (state (stage.Open plan.now) tracks.now runs.now connections.now settings.now times.now slips) }
 {
@@ -340,7 +340,7 @@ pub(crate) fn open_cost<K: Kind>(
     settings: &[u8],
     times: &[K],
 ) -> Result<Answer<K>, CallFault>
-    requires records { RecordsListed (open-memory plan.now tracks.now runs.now connections.now settings.now) }
+    requires records { RecordsListed (open_memory plan.now tracks.now runs.now connections.now settings.now) }
     requires shown { length times.now ≡ 1024 }
     ensures { (l : Sizes) (slips : List (Option Token)) (ring : List ℕ) (trial : List K) → AllListed l → Step K.Kind.time l (state (stage.Open plan.now) tracks.now runs.now connections.now settings.now times.now slips) named.Cost result ring trial (state (stage.Open plan.now) tracks.now runs.now connections.now settings.now times.now slips) }
 {
@@ -360,7 +360,7 @@ pub(crate) fn open_setting<K: Kind>(
     times: &[K],
     switch: Switch,
 ) -> Result<Answer<K>, CallFault>
-    requires records { RecordsListed (open-memory plan.now tracks.now runs.now connections.now settings.now) }
+    requires records { RecordsListed (open_memory plan.now tracks.now runs.now connections.now settings.now) }
     requires shown { length times.now ≡ 1024 }
     ensures { (l : Sizes) (slips : List (Option Token)) (ring : List ℕ) (trial : List K) → AllListed l → Step K.Kind.time l (state (stage.Open plan.now) tracks.now runs.now connections.now settings.now times.now slips) (named.Setting switch) result ring trial (state (stage.Open plan.now) tracks.now runs.now connections.now settings.now times.now slips) }
 {

@@ -2,7 +2,7 @@
 ghost use Rattle.std.specs.Prelude.{◌≡◌, ℕ, List, length, Option};
 ghost use Rattle.plan.specs.declared.states.Slip.{Slip};
 ghost use Rattle.rules.specs.Rows.{RecordsListed};
-ghost use Rattle.plan.specs.States.{draft-memory};
+ghost use Rattle.plan.specs.States.{draft_memory};
 ghost use Rattle.plan.specs.Calls.{Listed, lengths};
 ghost use Rattle.journal.specs.declared.calls.Call.TheVariants as named;
 ghost use Rattle.journal.specs.declared.calls.Plan.TheVariants as stage;
@@ -25,7 +25,7 @@ pub(crate) fn draft_track<K: Kind>(
     settings: &[u8],
     track: Track<K>,
 ) -> Result<Answer<K>, CallFault>
-    requires { RecordsListed (draft-memory draft.old tracks.old runs.now connections.now settings.now) }
+    requires { RecordsListed (draft_memory draft.old tracks.old runs.now connections.now settings.now) }
     ensures { (l : Sizes) (times : List K) (slips : List (Option Slip)) (ring : List ℕ) (trial : List K) → AllListed l → Step K.Kind.time l (state (stage.Draft draft.old) tracks.old runs.now connections.now settings.now times slips) (named.Track track) result ring trial (state (stage.Draft draft.new) tracks.new runs.now connections.now settings.now times slips) }
 {
     match draft.track(tracks, runs, connections, settings, track) {
@@ -43,7 +43,7 @@ pub(crate) fn draft_run<K: Kind>(
     settings: &mut [u8],
     run: Run<K>,
 ) -> Result<Answer<K>, CallFault>
-    requires { RecordsListed (draft-memory draft.old tracks.now runs.old connections.now settings.old) }
+    requires { RecordsListed (draft_memory draft.old tracks.now runs.old connections.now settings.old) }
     ensures { (l : Sizes) (times : List K) (slips : List (Option Slip)) (ring : List ℕ) (trial : List K) → AllListed l → Step K.Kind.time l (state (stage.Draft draft.old) tracks.now runs.old connections.now settings.old times slips) (named.Run run) result ring trial (state (stage.Draft draft.new) tracks.now runs.new connections.now settings.new times slips) }
 {
     match draft.run(tracks, runs, connections, settings, run) {
@@ -61,7 +61,7 @@ pub(crate) fn draft_connection<K: Kind>(
     settings: &mut [u8],
     connection: Connection<K>,
 ) -> Result<Answer<K>, CallFault>
-    requires { RecordsListed (draft-memory draft.old tracks.now runs.now connections.old settings.old) }
+    requires { RecordsListed (draft_memory draft.old tracks.now runs.now connections.old settings.old) }
     ensures { (l : Sizes) (times : List K) (slips : List (Option Slip)) (ring : List ℕ) (trial : List K) → AllListed l → Step K.Kind.time l (state (stage.Draft draft.old) tracks.now runs.now connections.old settings.old times slips) (named.Connection connection) result ring trial (state (stage.Draft draft.new) tracks.now runs.now connections.new settings.new times slips) }
 {
     match draft.connection(tracks, runs, connections, settings, connection) {
@@ -80,7 +80,7 @@ pub(crate) fn draft_preset<K: Kind>(
     switch: Switch,
     setting: u8,
 ) -> Result<Answer<K>, CallFault>
-    requires { RecordsListed (draft-memory draft.now tracks.now runs.now connections.now settings.old) }
+    requires { RecordsListed (draft_memory draft.now tracks.now runs.now connections.now settings.old) }
     ensures { (l : Sizes) (times : List K) (slips : List (Option Slip)) (ring : List ℕ) (trial : List K) → AllListed l → Step K.Kind.time l (state (stage.Draft draft.now) tracks.now runs.now connections.now settings.old times slips) (named.Preset switch setting) result ring trial (state (stage.Draft draft.now) tracks.now runs.now connections.now settings.new times slips) }
 {
     match draft.preset(tracks, runs, connections, settings, switch, setting) {
@@ -106,7 +106,7 @@ pub(crate) fn draft_open<K: Kind>(
     tables: &mut [K],
     marks: &mut [u16],
 ) -> (Plan, Result<Answer<K>, CallFault>)
-    requires records { RecordsListed (draft-memory draft tracks.now runs.now connections.now settings.now) }
+    requires records { RecordsListed (draft_memory draft tracks.now runs.now connections.now settings.now) }
     requires listed { Listed (lengths (length times.old) (length ring.old) (length counts.old) (length sums.old) (length befores.old) (length floors.old) (length arcs.old) (length tables.old) (length marks.old)) }
     ensures { (l : Sizes) (slips : List (Option Slip)) (trial : List K) → AllListed l → Step K.Kind.time l (state (stage.Draft draft) tracks.now runs.now connections.now settings.now times.old slips) named.Open result.1 ring.new trial (state result.0 tracks.now runs.now connections.now settings.now times.new slips) }
 {
@@ -142,7 +142,7 @@ pub(crate) fn draft_setting<K: Kind>(
     settings: &[u8],
     switch: Switch,
 ) -> Result<Answer<K>, CallFault>
-    requires { RecordsListed (draft-memory draft.now tracks.now runs.now connections.now settings.now) }
+    requires { RecordsListed (draft_memory draft.now tracks.now runs.now connections.now settings.now) }
     ensures { (l : Sizes) (times : List K) (slips : List (Option Slip)) (ring : List ℕ) (trial : List K) → AllListed l → Step K.Kind.time l (state (stage.Draft draft.now) tracks.now runs.now connections.now settings.now times slips) (named.Setting switch) result ring trial (state (stage.Draft draft.now) tracks.now runs.now connections.now settings.now times slips) }
 {
     match draft.setting(tracks, runs, connections, settings, switch) {

@@ -5,7 +5,7 @@ ghost use Rattle.plan.specs.Drafting.{blank};
 ghost use Rattle.journal.specs.declared.calls.Plan.TheVariants as stage;
 ghost use Rattle.journal.specs.Books.{new, registered};
 ghost use Rattle.journal.specs.Rows.{sizes};
-ghost use Rattle.journal.specs.Promise.{state, Stands, Steps, Told-all, call-of};
+ghost use Rattle.journal.specs.Promise.{state, Stands, Steps, ToldAll, call_of};
 
 use crate::performing::perform;
 use crate::{Line, Plan};
@@ -42,9 +42,9 @@ pub fn perform_all<K: Kind>(
     slips: &mut [Option<Slip>],
     journal: &mut [Line<K>],
 )
-    ensures calls { map call-of journal.new ≡ map call-of journal.old }
+    ensures calls { map call_of journal.new ≡ map call_of journal.old }
     ensures steps { Steps K.Kind.time (sizes (length tracks.old) (length runs.old) (length connections.old) (length settings.old) (length trial.old) (length slips.old) (lengths (length times.old) (length ring.old) (length counts.old) (length sums.old) (length befores.old) (length floors.old) (length arcs.old) (length tables.old) (length marks.old))) (state plan.old tracks.old runs.old connections.old settings.old times.old slips.old) journal.new (state plan.new tracks.new runs.new connections.new settings.new times.new slips.new) }
-    ensures fresh { (number slots : ℕ) → plan.old ≡ stage.Draft (blank number) → map is_some slips.old ≡ replicate slots false → Told-all K.Kind.time (sizes (length tracks.old) (length runs.old) (length connections.old) (length settings.old) (length trial.old) (length slips.old) (lengths (length times.old) (length ring.old) (length counts.old) (length sums.old) (length befores.old) (length floors.old) (length arcs.old) (length tables.old) (length marks.old))) (new number slots) journal.new × Stands K.Kind.time (registered K.Kind.time (new number slots) journal.new) (state plan.new tracks.new runs.new connections.new settings.new times.new slips.new) }
+    ensures fresh { (number slots : ℕ) → plan.old ≡ stage.Draft (blank number) → map is_some slips.old ≡ replicate slots false → ToldAll K.Kind.time (sizes (length tracks.old) (length runs.old) (length connections.old) (length settings.old) (length trial.old) (length slips.old) (lengths (length times.old) (length ring.old) (length counts.old) (length sums.old) (length befores.old) (length floors.old) (length arcs.old) (length tables.old) (length marks.old))) (new number slots) journal.new × Stands K.Kind.time (registered K.Kind.time (new number slots) journal.new) (state plan.new tracks.new runs.new connections.new settings.new times.new slips.new) }
 {
     for i in 0..journal.len() {
         let call = journal[i].call;

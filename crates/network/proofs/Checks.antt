@@ -8,7 +8,7 @@ use Rattle.network.specs.declared.faults.NetworkFault.{NetworkFault}
 use Rattle.network.specs.declared.faults.NetworkFault.TheVariants as fault
 use Rattle.network.specs.Refusals.{Passed, First}
 use Rattle.network.specs.Faults.{network_number, network_place}
-use Rattle.network.specs.Reckoning.{at, arc-at, Lengths, length_rows, Handed, first_rows, RingAfter, SomeOf, Stray}
+use Rattle.network.specs.Reckoning.{at, arc_at, Lengths, length_rows, Handed, first_rows, RingAfter, SomeOf, Stray}
 use Rattle.network.specs.Rounds.{Sound, Sized}
 use Rattle.network.proofs.Strays.{some_at}
 use Rattle.network.proofs.Refusals.{first_under}
@@ -60,8 +60,8 @@ module _ {K : Type 0} (t : Time K) where
         events = kept;
         sound = record {
           few = omega arith;
-          starts = λ k i. elim (cases_lt (arc-at t (take h.arc_count h.arcs) k).from h.events) [ inl l ↦ omega arith | inr l ↦ absurd (strays (some_at (Stray h.events) d _ k i (inl l))) ];
-          ends = λ k i. elim (cases_lt (arc-at t (take h.arc_count h.arcs) k).to h.events) [ inl l ↦ omega arith | inr l ↦ absurd (strays (some_at (Stray h.events) d _ k i (inr l))) ];
+          starts = λ k i. elim (cases_lt (arc_at t (take h.arc_count h.arcs) k).from h.events) [ inl l ↦ omega arith | inr l ↦ absurd (strays (some_at (Stray h.events) d _ k i (inl l))) ];
+          ends = λ k i. elim (cases_lt (arc_at t (take h.arc_count h.arcs) k).to h.events) [ inl l ↦ omega arith | inr l ↦ absurd (strays (some_at (Stray h.events) d _ k i (inr l))) ];
           short = λ k i. not_over _ _ (λ l. durations (some_at (λ a. 100000 < t.size a.duration) d _ k i l));
         };
         sized = λ v i. not_over _ _ (λ l. floors (some_at (λ x. 110000000 < t.size x) t.none _ v i l));

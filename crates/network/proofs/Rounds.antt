@@ -6,7 +6,7 @@ use Rattle.kinds.specs.Time.{Time, Laws}
 use Rattle.network.specs.declared.Arc.{Arc}
 use Rattle.kinds.specs.Time.{within}
 use Rattle.network.specs.Network.{UpTo, After}
-use Rattle.network.specs.Reckoning.{at, arc-at}
+use Rattle.network.specs.Reckoning.{at, arc_at}
 use Rattle.network.specs.Rounds.{Round, Source, Sound, Sized}
 use Rattle.network.proofs.Order.{upto_refl, after_upto, upto_same}
 
@@ -24,7 +24,7 @@ none_not n z h e =
 
 -- what is read at arc i, and at its start
 module _ {K : Type 0} (old : List K) {t : Time K} {arcs : List (Arc K)} (sound : Sound t (length old) arcs) {i : ℕ} (l : i < length arcs) {a : Arc K} (a-is : a ≡ get_or arcs i a) where
-  pub arc_is : a ≡ arc-at t arcs i
+  pub arc_is : a ≡ arc_at t arcs i
   arc_is = get_or_read arcs i a l a-is _
 
   pub arc_starts : a.from < length old
@@ -43,26 +43,26 @@ module _ {K : Type 0} (old : List K) {t : Time K} {arcs : List (Arc K)} (sound :
         let q : t.size a.duration ≤ 100000 = rw arc_is (sound.short i l) in
         omega arith
 
-    pub brings : {x : K} → Some x ≡ within (t.size y + t.size a.duration) (t.join y a.duration) → x ≡ t.join (at t old (arc-at t arcs i).from) (arc-at t arcs i).duration
+    pub brings : {x : K} → Some x ≡ within (t.size y + t.size a.duration) (t.join y a.duration) → x ≡ t.join (at t old (arc_at t arcs i).from) (arc_at t arcs i).duration
     brings e = let p = some_is _ _ _ e in let q = start_is in let r = arc_is in rw p (rw q (rw r refl))
 
 module _ {K : Type 0} {t : Time K} (laws : Laws t) (arcs : List (Arc K)) (i : ℕ) (old new : List K) (from : List ℕ) where
   -- what arc i brings to its end
   abbrev brought : K
-  brought = t.join (at t old (arc-at t arcs i).from) (arc-at t arcs i).duration
+  brought = t.join (at t old (arc_at t arcs i).from) (arc_at t arcs i).duration
 
   weaker : (v : ℕ) (x : K) (f : ℕ) → Source t arcs i old v x f → Source t arcs (i + 1) old v x f
   weaker v x f (inl p) = inl p
   weaker v x f (inr p) = inr (omega arith, p.1, p.2, p.3)
 
-  pub round_keeps : Round t arcs i old new from → UpTo t brought (at t new (arc-at t arcs i).to) → Round t arcs (i + 1) old new from
+  pub round_keeps : Round t arcs i old new from → UpTo t brought (at t new (arc_at t arcs i).to) → Round t arcs (i + 1) old new from
   round_keeps r h = record {
     keeps = r.keeps;
     meets = below_more _ _ r.meets h;
     source = λ v l. weaker v _ _ (r.source v l);
   }
 
-  module _ (e : ℕ) (x : K) (is-end : e ≡ (arc-at t arcs i).to) (is_x : x ≡ brought) (in-old : e < length old) (in-new : e < length new) (in-from : e < length from) (after : After t x (at t new e)) where
+  module _ (e : ℕ) (x : K) (is-end : e ≡ (arc_at t arcs i).to) (is_x : x ≡ brought) (in-old : e < length old) (in-new : e < length new) (in-from : e < length from) (after : After t x (at t new e)) where
     -- the new table at v: x at e, and otherwise as it was
     there : (P : K → ℕ → Type 0) (v : ℕ) → (v ≡ e → P x i) → (v ≢ e → P (at t new v) (get_or from v 0)) → P (at t (set new e x) v) (get_or (set from e i) v 0)
     there P v same other =
@@ -81,10 +81,10 @@ module _ {K : Type 0} {t : Time K} (laws : Laws t) (arcs : List (Arc K)) (i : �
           (λ q. rw q (laws.trans (at t old e) (at t new e) x (r.keeps e in-old) rose))
           (λ _. r.keeps v l);
       meets = below_more _ _
-          (λ k h. there (λ y _. UpTo t (t.join (at t old (arc-at t arcs k).from) (arc-at t arcs k).duration) y) (arc-at t arcs k).to
+          (λ k h. there (λ y _. UpTo t (t.join (at t old (arc_at t arcs k).from) (arc_at t arcs k).duration) y) (arc_at t arcs k).to
           (λ q. laws.trans _ (at t new e) x (rw q at (r.meets k h)) rose)
           (λ _. r.meets k h))
-          (there (λ y _. UpTo t brought y) (arc-at t arcs i).to
+          (there (λ y _. UpTo t brought y) (arc_at t arcs i).to
           (λ _. upto_same laws (sym is_x))
           (λ ne. absurd (ne (sym is-end))));
       source = λ v l. there (λ y f. Source t arcs (i + 1) old v y f) v

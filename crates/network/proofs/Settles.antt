@@ -3,7 +3,7 @@ use Rattle.std.proofs.Common.{◌≡◌, ℕ, zero, suc, ◌+◌, ◌-◌, ◌*�
 use Rattle.kinds.specs.Time.{Time, Laws}
 use Rattle.network.specs.declared.Arc.{Arc}
 use Rattle.network.specs.Network.{UpTo, After, Chain, along, Reaches, Meets}
-use Rattle.network.specs.Reckoning.{at, arc-at, placed}
+use Rattle.network.specs.Reckoning.{at, arc_at, placed}
 use Rattle.network.specs.Rounds.{Round, Source, Sound, Sized, Latest, Settled}
 use Rattle.network.proofs.Order.{upto_refl, after_upto, upto_same}
 use Rattle.network.proofs.Walks.{latest_more}
@@ -20,7 +20,7 @@ module _ {K : Type 0} {t : Time K} (laws : Laws t) (floors : List K) (arcs : Lis
     again : Round t arcs (length arcs) old old row
     again = record {
       keeps = λ v h. upto_refl laws _;
-      meets = λ f h. rw (sym (still (arc-at t arcs f).to (sound.ends f h))) (r.meets f h);
+      meets = λ f h. rw (sym (still (arc_at t arcs f).to (sound.ends f h))) (r.meets f h);
       source = λ v h. let e = l.same in inl (quiet v (omega arith), refl);
     }
 

@@ -3,7 +3,7 @@ use Rattle.std.proofs.Common.{◌≡◌, ℕ, zero, suc, ◌<◌, ◌≤◌, tru
 use Rattle.std.proofs.lemmas.Bool.Decides.{nat_tests}
 use Rattle.std.proofs.lemmas.Bool.{cases_lt}
 use Rattle.network.specs.declared.Arc.{Arc}
-use Rattle.network.specs.Reckoning.{SomeOf, Stray, first-stray}
+use Rattle.network.specs.Reckoning.{SomeOf, Stray, first_stray}
 
 pub some_none : {X : Type 0} (P : X → Type 0) (d : X) (xs : List X) → ((k : ℕ) → k < length xs → P (get_or xs k d) → ⊥) → SomeOf P xs → ⊥
 some_none P d [] f s = s
@@ -25,12 +25,12 @@ module _ {K : Type 0} (n : ℕ) (d : Arc K) where
       let i : a.to < n = le_or a.to (λ l. f (inr l)) in
       grind (arith, nat_tests)
 
-  pub stray_from : (xs : List (Arc K)) (k : ℕ) → ((j : ℕ) → j < k → Stray n (get_or xs j d) → ⊥) → k < length xs → n ≤ (get_or xs k d).from → first-stray n xs ≡ (get_or xs k d).from
+  pub stray_from : (xs : List (Arc K)) (k : ℕ) → ((j : ℕ) → j < k → Stray n (get_or xs j d) → ⊥) → k < length xs → n ≤ (get_or xs k d).from → first_stray n xs ≡ (get_or xs k d).from
   stray_from [] k f h l = absurd (omega arith)
   stray_from (a ∷ xs) zero f h l = grind (arith, nat_tests)
   stray_from (a ∷ xs) (suc k) f h l = passes a _ (f 0 (omega arith)) ∙ stray_from xs k (λ j i. f (suc j) (omega arith)) (omega arith) l
 
-  pub stray_to : (xs : List (Arc K)) (k : ℕ) → ((j : ℕ) → j < k → Stray n (get_or xs j d) → ⊥) → k < length xs → (get_or xs k d).from < n → n ≤ (get_or xs k d).to → first-stray n xs ≡ (get_or xs k d).to
+  pub stray_to : (xs : List (Arc K)) (k : ℕ) → ((j : ℕ) → j < k → Stray n (get_or xs j d) → ⊥) → k < length xs → (get_or xs k d).from < n → n ≤ (get_or xs k d).to → first_stray n xs ≡ (get_or xs k d).to
   stray_to [] k f h i l = absurd (omega arith)
   stray_to (a ∷ xs) zero f h i l = grind (arith, nat_tests)
   stray_to (a ∷ xs) (suc k) f h i l = passes a _ (f 0 (omega arith)) ∙ stray_to xs k (λ j r. f (suc j) (omega arith)) (omega arith) i l

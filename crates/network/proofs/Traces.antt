@@ -6,14 +6,14 @@ use Rattle.std.proofs.lemmas.List.{take_more_set, take-append-drop, take-take, l
 use Rattle.kinds.specs.Time.{Time, Laws}
 use Rattle.network.specs.declared.Arc.{Arc}
 use Rattle.network.specs.Network.{UpTo, After, Chain, along, Reaches, Ring, ends, Apart, Lacks}
-use Rattle.network.specs.Reckoning.{at, arc-at, placed, network-of}
+use Rattle.network.specs.Reckoning.{at, arc_at, placed, network_of}
 use Rattle.network.specs.Rounds.{Round, Source, Sound, Sized, Latest, Level, Levels, row_of, Rising}
 use Rattle.network.proofs.Order.{upto_refl, after_upto, upto_after, upto_same, is_false}
 use Rattle.network.proofs.Walks.{fits, latest_size}
 use Rattle.network.proofs.Chains.{Fit, length_ends, along_append, chain_append, chain_split, grows, along_mono, along_join}
 use Rattle.network.proofs.Pigeons.{pigeon, apart_by, lacks_other}
 
-pub event_at : {K : Type 0} (t : Time K) (arcs : List (Arc K)) (ks : List ℕ) (j : ℕ) → j < length ks → get_or (ends t (placed t arcs) ks) j 0 ≡ (arc-at t arcs (get_or ks j 0)).to
+pub event_at : {K : Type 0} (t : Time K) (arcs : List (Arc K)) (ks : List ℕ) (j : ℕ) → j < length ks → get_or (ends t (placed t arcs) ks) j 0 ≡ (arc_at t arcs (get_or ks j 0)).to
 event_at t arcs [] j h = absurd (omega arith)
 event_at t arcs (k ∷ ks) zero h = refl
 event_at t arcs (k ∷ ks) (suc j) h = event_at t arcs ks j (omega arith)
@@ -24,7 +24,7 @@ pub record Traced {K : Type 0} (t : Time K) (floors : List K) (arcs : List (Arc 
   pub tab : List K
   pub inside : u < length floors
   -- x stands after all that reaches v by fewer than n arcs
-  pub beyond : (j : ℕ) (y : K) → j < length floors → Reaches t (network-of t floors arcs) j v y → After t x y
+  pub beyond : (j : ℕ) (y : K) → j < length floors → Reaches t (network_of t floors arcs) j v y → After t x y
   pub level : ℕ
   pub is_level : level + i ≡ length floors
   pub is_tab : Latest t floors arcs level tab
@@ -44,11 +44,11 @@ module _ {K : Type 0} {t : Time K} (laws : Laws t) (floors : List K) (arcs : Lis
       laws.antisym _ _ (q.walks.latest v r.0 _ r.1 r.2) (p.walks.latest v s.0 _ s.1 s.2)
 
   -- what raised an event
-  raised : (old : List K) (v : ℕ) (x : K) (f : ℕ) → (f ≡ 65535 → ⊥) → Source t arcs (length arcs) old v x f → (f < length arcs) × ((arc-at t arcs f).to ≡ v) × (x ≡ t.join (at t old (arc-at t arcs f).from) (arc-at t arcs f).duration) × After t x (at t old v)
+  raised : (old : List K) (v : ℕ) (x : K) (f : ℕ) → (f ≡ 65535 → ⊥) → Source t arcs (length arcs) old v x f → (f < length arcs) × ((arc_at t arcs f).to ≡ v) × (x ≡ t.join (at t old (arc_at t arcs f).from) (arc_at t arcs f).duration) × After t x (at t old v)
   raised old v x f ne (inl p) = absurd (ne p.0)
   raised old v x f ne (inr p) = p
 
-  raised_by : (old : List K) (v : ℕ) (x : K) (f h : ℕ) → f ≡ h → (h ≡ 65535 → ⊥) → Source t arcs (length arcs) old v x h → (f < length arcs) × ((arc-at t arcs f).to ≡ v) × (x ≡ t.join (at t old (arc-at t arcs f).from) (arc-at t arcs f).duration) × After t x (at t old v)
+  raised_by : (old : List K) (v : ℕ) (x : K) (f h : ℕ) → f ≡ h → (h ≡ 65535 → ⊥) → Source t arcs (length arcs) old v x h → (f < length arcs) × ((arc_at t arcs f).to ≡ v) × (x ≡ t.join (at t old (arc_at t arcs f).from) (arc_at t arcs f).duration) × After t x (at t old v)
   raised_by old v x f h e ne s = raised old v x f (λ q. ne (sym e ∙ q)) (rw e s)
 
   same_by : (old : List K) (v : ℕ) (x : K) (f : ℕ) → f ≡ 65535 → Source t arcs (length arcs) old v x f → x ≡ at t old v
@@ -80,17 +80,17 @@ module _ {K : Type 0} {t : Time K} (laws : Laws t) (floors : List K) (arcs : Lis
       lev : Level t floors arcs k (row_of (length floors) rows k)
       lev = let e = tr.is_level in levels k (omega arith)
 
-      up : (f < length arcs) × ((arc-at t arcs f).to ≡ u) × (at t lev.new u ≡ t.join (at t lev.old (arc-at t arcs f).from) (arc-at t arcs f).duration) × After t (at t lev.new u) (at t lev.old u)
+      up : (f < length arcs) × ((arc_at t arcs f).to ≡ u) × (at t lev.new u ≡ t.join (at t lev.old (arc_at t arcs f).from) (arc_at t arcs f).duration) × After t (at t lev.new u) (at t lev.old u)
       up = raised_by lev.old u _ f _ is_f (tr.rises k is_k) (lev.round.source u (let e = lev.is_old.same in let h = tr.inside in omega arith))
 
       pub traced_arc : f < length arcs
       traced_arc = up.0
 
-      pub traced_end : (arc-at t arcs f).to ≡ u
+      pub traced_end : (arc_at t arcs f).to ≡ u
       traced_end = up.1
 
       start : ℕ
-      start = (arc-at t arcs f).from
+      start = (arc_at t arcs f).from
 
       -- the table of the trace is the one that the row came to
       here : at t tr.tab u ≡ at t lev.new u
@@ -100,20 +100,20 @@ module _ {K : Type 0} {t : Time K} (laws : Laws t) (floors : List K) (arcs : Lis
       longer = take_more_set path i f in_path
 
       -- had the start not risen in the row before, the event would have had its value before
-      rose : (r : ℕ) → r + 1 ≡ k → get_or (row_of (length floors) rows r) (arc-at t arcs f).from 0 ≡ 65535 → ⊥
+      rose : (r : ℕ) → r + 1 ≡ k → get_or (row_of (length floors) rows r) (arc_at t arcs f).from 0 ≡ 65535 → ⊥
       rose r e quiet =
           let w = tr.is_level in
           let under = levels r (omega arith) in
           let in_start = sound.starts f up.0 in
-          let still : at t under.new (arc-at t arcs f).from ≡ at t under.old (arc-at t arcs f).from = same_by under.old (arc-at t arcs f).from _ _ quiet (under.round.source (arc-at t arcs f).from (let q = under.is_old.same in omega arith)) in
-          let joint : at t lev.old (arc-at t arcs f).from ≡ at t under.new (arc-at t arcs f).from = unique k lev.old under.new lev.is_old (rw e at under.is_new) (arc-at t arcs f).from in_start in
+          let still : at t under.new (arc_at t arcs f).from ≡ at t under.old (arc_at t arcs f).from = same_by under.old (arc_at t arcs f).from _ _ quiet (under.round.source (arc_at t arcs f).from (let q = under.is_old.same in omega arith)) in
+          let joint : at t lev.old (arc_at t arcs f).from ≡ at t under.new (arc_at t arcs f).from = unique k lev.old under.new lev.is_old (rw e at under.is_new) (arc_at t arcs f).from in_start in
           let joint-u : at t lev.old u ≡ at t under.new u = unique k lev.old under.new lev.is_old (rw e at under.is_new) u tr.inside in
           let met = under.round.meets f up.0 in
-          let value : at t lev.new u ≡ t.join (at t under.old (arc-at t arcs f).from) (arc-at t arcs f).duration = up.2 ∙ ap (λ z. t.join z (arc-at t arcs f).duration) (joint ∙ still) in
+          let value : at t lev.new u ≡ t.join (at t under.old (arc_at t arcs f).from) (arc_at t arcs f).duration = up.2 ∙ ap (λ z. t.join z (arc_at t arcs f).duration) (joint ∙ still) in
           let low : UpTo t (at t lev.new u) (at t lev.old u) = rw (value, joint-u, ← up.1) met in
           both_ways _ up.3 low
 
-      pub traced_more : Traced t floors arcs rows (set path i f) v (i + 1) (arc-at t arcs f).from
+      pub traced_more : Traced t floors arcs rows (set path i f) v (i + 1) (arc_at t arcs f).from
       traced_more = record {
         x = tr.x;
         tab = lev.old;
@@ -122,13 +122,13 @@ module _ {K : Type 0} {t : Time K} (laws : Laws t) (floors : List K) (arcs : Lis
         inside = sound.starts f up.0;
         beyond = tr.beyond;
         is_tab = lev.is_old;
-        value = rw longer (tr.value ∙ ap (λ y. along t (placed t arcs) y (take i path)) (here ∙ up.2) ∙ sym (along_append t (placed t arcs) (at t lev.old (arc-at t arcs f).from) (take i path) (f ∷ [])));
-        chain = rw longer (chain_append t (placed t arcs) (arc-at t arcs f).from u v (take i path) (f ∷ []) tr.chain (up.0, up.1, refl));
+        value = rw longer (tr.value ∙ ap (λ y. along t (placed t arcs) y (take i path)) (here ∙ up.2) ∙ sym (along_append t (placed t arcs) (at t lev.old (arc_at t arcs f).from) (take i path) (f ∷ [])));
+        chain = rw longer (chain_append t (placed t arcs) (arc_at t arcs f).from u v (take i path) (f ∷ []) tr.chain (up.0, up.1, refl));
         rises = rose;
       }
 
   -- an event that comes twice closes a ring
-  module _ (rows path : List ℕ) (v i u s : ℕ) (tr : Traced t floors arcs rows path v i u) (in-s : s < i) (in_path : i ≤ length path) (again : (arc-at t arcs (get_or path s 0)).to ≡ u) where
+  module _ (rows path : List ℕ) (v i u s : ℕ) (tr : Traced t floors arcs rows path v i u) (in-s : s < i) (in_path : i ≤ length path) (again : (arc_at t arcs (get_or path s 0)).to ≡ u) where
     abbrev ring : List ℕ
     ring = drop s (take i path)
 
@@ -141,7 +141,7 @@ module _ {K : Type 0} {t : Time K} (laws : Laws t) (floors : List K) (arcs : Lis
     split : (w : ℕ) × Chain t (placed t arcs) w (take s path) v × Chain t (placed t arcs) u (drop s (take i path)) w
     split = chain_split t (placed t arcs) u v (take s path) (drop s (take i path)) (rw parts at tr.chain)
 
-    ends_at : (w : ℕ) (ks : List ℕ) (k : ℕ) (ls : List ℕ) → ks ≡ k ∷ ls → Chain t (placed t arcs) u ks w → (arc-at t arcs k).to ≡ w
+    ends_at : (w : ℕ) (ks : List ℕ) (k : ℕ) (ls : List ℕ) → ks ≡ k ∷ ls → Chain t (placed t arcs) u ks w → (arc_at t arcs k).to ≡ w
     ends_at w [] k ls e c = let z : ◌≡◌ {A = ℕ} 0 1 = cc in absurd (omega arith)
     ends_at w (h ∷ hs) k ls e c = let q : h ≡ k = cc in rw (sym q) c.1
 
@@ -150,7 +150,7 @@ module _ {K : Type 0} {t : Time K} (laws : Laws t) (floors : List K) (arcs : Lis
         let long : s < length (take i path) = simp length-take (omega arith) in
         let head = drop_more (take i path) s 0 long in
         let first : get_or (take i path) s 0 ≡ get_or path s 0 = get_or-take i path s 0 in-s in
-        sym (ends_at split.0 (drop s (take i path)) (get_or (take i path) s 0) _ head split.2) ∙ ap (λ k. (arc-at t arcs k).to) first ∙ again
+        sym (ends_at split.0 (drop s (take i path)) (get_or (take i path) s 0) _ head split.2) ∙ ap (λ k. (arc_at t arcs k).to) first ∙ again
 
     pub closes : Chain t (placed t arcs) u (drop s (take i path)) u
     closes = rw back at split.2
@@ -187,7 +187,7 @@ module _ {K : Type 0} {t : Time K} (laws : Laws t) (floors : List K) (arcs : Lis
         let whole : tr.x ≡ along t (placed t arcs) (along t (placed t arcs) y (drop s (take i path))) (take s path) = tr.value ∙ ap (along t (placed t arcs) y) parts ∙ along_append t (placed t arcs) y (take s path) (drop s (take i path)) in
         let w = tr.is_tab.walks.reached u tr.inside in
         let j-low = w.1 in
-        let short : Reaches t (network-of t floors arcs) (s + w.0) v (along t (placed t arcs) y (take s path)) = record {
+        let short : Reaches t (network_of t floors arcs) (s + w.0) v (along t (placed t arcs) y (take s path)) = record {
           first = w.2.first;
           walk = take s path ++ w.2.walk;
           inside = w.2.inside;
@@ -197,7 +197,7 @@ module _ {K : Type 0} {t : Time K} (laws : Laws t) (floors : List K) (arcs : Lis
         } in
         both_ways _ (tr.beyond (s + w.0) _ (omega arith) short) (rw whole less-all))
 
-    pub ring_is : (m : ℕ → ℕ) → ((j : ℕ) → j < i → m (arc-at t arcs (get_or path j 0)).to ≡ j) → Ring t (placed t arcs) (drop s (take i path))
+    pub ring_is : (m : ℕ → ℕ) → ((j : ℕ) → j < i → m (arc_at t arcs (get_or path j 0)).to ≡ j) → Ring t (placed t arcs) (drop s (take i path))
     ring_is m marks = record {
       event = u;
       closed = closes;
@@ -206,6 +206,6 @@ module _ {K : Type 0} {t : Time K} (laws : Laws t) (floors : List K) (arcs : Lis
           let el = length_ends t (placed t arcs) (drop s (take i path)) in
           let in-j : j < length (drop s (take i path)) = omega arith in
           let at_j : get_or (drop s (take i path)) j 0 ≡ get_or path (s + j) 0 = get_or-drop s (take i path) j 0 ∙ get_or-take i path (s + j) 0 (omega arith) in
-          ap m (event_at t arcs (drop s (take i path)) j in-j ∙ ap (λ k. (arc-at t arcs k).to) at_j) ∙ marks (s + j) (omega arith));
+          ap m (event_at t arcs (drop s (take i path)) j in-j ∙ ap (λ k. (arc_at t arcs k).to) at_j) ∙ marks (s + j) (omega arith));
       after = rises_round;
     }

@@ -5,7 +5,7 @@ use Rattle.std.proofs.lemmas.List.{get_or-take, get_or-drop, get_or_default, get
 use Rattle.kinds.specs.Time.{Time, Laws}
 use Rattle.network.specs.declared.Arc.{Arc}
 use Rattle.network.specs.Network.{Ring}
-use Rattle.network.specs.Reckoning.{arc-at, placed}
+use Rattle.network.specs.Reckoning.{arc_at, placed}
 use Rattle.network.specs.Rounds.{Sound, Sized, Rising, Levels, row_of}
 use Rattle.network.proofs.Traces.{Traced, traced_none, traced_more, traced_arc, traced_end, ring_is}
 use Rattle.network.proofs.Marks.{Mark, Marks, marks_none, marks_more, room}
@@ -52,7 +52,7 @@ module _ {K : Type 0} {t : Time K} {floors : List K} {arcs : List (Arc K)} {rows
 
     pub turn_traced : (a : Arc K) → Traced t floors arcs rows (set path i (get_or rows ((length floors - 1 - i) * length floors + u) 0)) v (i + 1) (get_or arcs (get_or rows ((length floors - 1 - i) * length floors + u) 0) a).from
     turn_traced a =
-        let e : get_or arcs arc a ≡ arc-at t arcs arc = get_or_default arcs arc a _ turn_arc in
+        let e : get_or arcs arc a ≡ arc_at t arcs arc = get_or_default arcs arc a _ turn_arc in
         rw e (traced_more c.laws floors arcs c.sound c.sized c.few rows v i u (length floors - 1 - i) _ path c.levels c.traced is_k is_f in_path)
 
     pub turn_marks : Marks t arcs (length floors) (set seen u i) (set path i (get_or rows ((length floors - 1 - i) * length floors + u) 0)) (i + 1)

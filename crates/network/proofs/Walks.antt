@@ -3,7 +3,7 @@ use Rattle.std.proofs.Common.{◌≡◌, ℕ, suc, ◌+◌, ◌*◌, ◌<◌, �
 use Rattle.kinds.specs.Time.{Time, Laws}
 use Rattle.network.specs.declared.Arc.{Arc}
 use Rattle.network.specs.Network.{UpTo, After, Chain, along, Reaches}
-use Rattle.network.specs.Reckoning.{at, arc-at, placed, network-of}
+use Rattle.network.specs.Reckoning.{at, arc_at, placed, network_of}
 use Rattle.network.specs.Rounds.{Round, Source, Sound, Sized, Latest}
 use Rattle.network.proofs.Chains.{Fit, grows}
 use Rattle.network.proofs.Order.{upto_refl, after_upto, upto_same}
@@ -12,7 +12,7 @@ module _ {K : Type 0} {t : Time K} (laws : Laws t) (floors : List K) (arcs : Lis
   pub fits : Fit t (length floors) (placed t arcs)
   fits = record { starts = sound.starts; ends = sound.ends; short = sound.short }
 
-  pub reaches_size : (j v : ℕ) (x : K) → Reaches t (network-of t floors arcs) j v x → j ≤ 1024 → t.size x ≤ 110000000 + j * 100000
+  pub reaches_size : (j v : ℕ) (x : K) → Reaches t (network_of t floors arcs) j v x → j ≤ 1024 → t.size x ≤ 110000000 + j * 100000
   reaches_size j v x r h =
       let e = r.count in
       let p = grows laws (length floors) (placed t arcs) fits (at t floors r.first) 110000000 r.first r.walk v r.chain (sized r.first r.inside) (omega arith) in
@@ -44,23 +44,23 @@ module _ {K : Type 0} {t : Time K} (laws : Laws t) (floors : List K) (arcs : Lis
   }
 
   -- an arc more at the end of a walk
-  walk_on : (j f : ℕ) (y : K) → f < length arcs → Reaches t (network-of t floors arcs) j (arc-at t arcs f).from y → Reaches t (network-of t floors arcs) (suc j) (arc-at t arcs f).to (t.join y (arc-at t arcs f).duration)
+  walk_on : (j f : ℕ) (y : K) → f < length arcs → Reaches t (network_of t floors arcs) j (arc_at t arcs f).from y → Reaches t (network_of t floors arcs) (suc j) (arc_at t arcs f).to (t.join y (arc_at t arcs f).duration)
   walk_on j f y h r = record {
     first = r.first;
     walk = f ∷ r.walk;
     inside = r.inside;
     chain = (h, refl, r.chain);
     count = ap suc r.count;
-    value = ap (λ z. t.join z (arc-at t arcs f).duration) r.value;
+    value = ap (λ z. t.join z (arc_at t arcs f).duration) r.value;
   }
 
   module _ (k : ℕ) (old new : List K) (row : List ℕ) (few : k < 1024) (l : Latest t floors arcs k old) (r : Round t arcs (length arcs) old new row) where
-    came : (v : ℕ) (x : K) (f : ℕ) → v < length floors → Source t arcs (length arcs) old v x f → (j : ℕ) × (j ≤ k + 1) × Reaches t (network-of t floors arcs) j v x
+    came : (v : ℕ) (x : K) (f : ℕ) → v < length floors → Source t arcs (length arcs) old v x f → (j : ℕ) × (j ≤ k + 1) × Reaches t (network_of t floors arcs) j v x
     came v x f h (inl p) =
         let w = l.walks.reached v h in
         (w.0, omega (arith, w.1), rw p.1 w.2)
     came v x f h (inr p) =
-        let w = l.walks.reached (arc-at t arcs f).from (sound.starts f p.0) in
+        let w = l.walks.reached (arc_at t arcs f).from (sound.starts f p.0) in
         (suc w.0, omega (arith, w.1), rw (p.2, ← p.1) (walk_on w.0 f _ p.0 w.2))
 
     walked : (u v : ℕ) (ks : List ℕ) → length ks ≤ k + 1 → u < length floors → v < length floors → Chain t (placed t arcs) u ks v → UpTo t (along t (placed t arcs) (at t floors u) ks) (at t new v)
@@ -69,12 +69,12 @@ module _ {K : Type 0} {t : Time K} (laws : Laws t) (floors : List K) (arcs : Lis
         laws.trans _ (at t old v) _ (l.walks.latest v 0 _ (omega arith) (record { first = u; walk = []; inside = in-u; chain = c; count = refl; value = refl })) (r.keeps v (omega arith))
     walked u v (f ∷ ks) h in-u in-v c =
         let y = along t (placed t arcs) (at t floors u) ks in
-        let w : Reaches t (network-of t floors arcs) (length ks) (arc-at t arcs f).from y = record { first = u; walk = ks; inside = in-u; chain = c.2; count = refl; value = refl } in
-        let up = l.walks.latest (arc-at t arcs f).from (length ks) y (omega arith) w in
-        let size-y = reaches_size (length ks) (arc-at t arcs f).from y w (omega arith) in
-        let size-o = latest_size k old l (omega arith) (arc-at t arcs f).from (sound.starts f c.0) in
+        let w : Reaches t (network_of t floors arcs) (length ks) (arc_at t arcs f).from y = record { first = u; walk = ks; inside = in-u; chain = c.2; count = refl; value = refl } in
+        let up = l.walks.latest (arc_at t arcs f).from (length ks) y (omega arith) w in
+        let size-y = reaches_size (length ks) (arc_at t arcs f).from y w (omega arith) in
+        let size-o = latest_size k old l (omega arith) (arc_at t arcs f).from (sound.starts f c.0) in
         let size-d = sound.short f c.0 in
-        let more = laws.mono_left y (at t old (arc-at t arcs f).from) (arc-at t arcs f).duration (omega arith) (omega arith) up in
+        let more = laws.mono_left y (at t old (arc_at t arcs f).from) (arc_at t arcs f).duration (omega arith) (omega arith) up in
         rw (sym c.1) (laws.trans _ _ _ more (r.meets f c.0))
 
     -- a walk ends at an event

@@ -19,15 +19,15 @@ module _ {K : Type 0} (t : Time K) where
   at xs v = slice_index_or xs v t.none
 
   -- the arc at place k
-  abbrev pub arc-at : List (Arc K) → ℕ → Arc K
-  arc-at arcs k = slice_index_or arcs k (record { from = 0; to = 0; duration = t.none })
+  abbrev pub arc_at : List (Arc K) → ℕ → Arc K
+  arc_at arcs k = slice_index_or arcs k (record { from = 0; to = 0; duration = t.none })
 
   -- arcs named by their places
   abbrev pub placed : List (Arc K) → Arcs K
-  placed arcs = record { Name = ℕ; Has = λ k. k < length arcs; arc = arc-at arcs }
+  placed arcs = record { Name = ℕ; Has = λ k. k < length arcs; arc = arc_at arcs }
 
-  abbrev pub network-of : List K → List (Arc K) → Network K
-  network-of floors arcs = record { events = length floors; floor = at floors; arcs = placed arcs }
+  abbrev pub network_of : List K → List (Arc K) → Network K
+  network_of floors arcs = record { events = length floors; floor = at floors; arcs = placed arcs }
 
 -- How long the memories are: floors, arcs, times, ring, and the working memories of tables and marks.
 pub record Lengths : Type 0 where
@@ -75,15 +75,15 @@ module _ {K : Type 0} where
   Stray n a = (n ≤ a.from) ⊎ (n ≤ a.to)
 
   -- the first number in the arcs that names no event
-  abbrev pub first-stray : ℕ → List (Arc K) → ℕ
-  first-stray n [] = 0
-  first-stray n (a ∷ rest) = cond (nat_lt a.from n) (cond (nat_lt a.to n) (first-stray n rest) a.to) a.from
+  abbrev pub first_stray : ℕ → List (Arc K) → ℕ
+  first_stray n [] = 0
+  first_stray n (a ∷ rest) = cond (nat_lt a.from n) (cond (nat_lt a.to n) (first_stray n rest) a.to) a.from
 
   module _ (t : Time K) where
     -- what the network itself can break
-    abbrev pub network-rows : ℕ → ℕ → List K → List (Arc K) → List Row
-    network-rows events arc_count floors arcs =
-        row 3 (first-stray events arcs) (SomeOf (Stray events) arcs)
+    abbrev pub network_rows : ℕ → ℕ → List K → List (Arc K) → List Row
+    network_rows events arc_count floors arcs =
+        row 3 (first_stray events arcs) (SomeOf (Stray events) arcs)
         ∷ row 4 0 (SomeOf (λ x. 110000000 < t.size x) floors)
         ∷ row 5 0 (SomeOf (λ a. 100000 < t.size a.duration) arcs)
         ∷ row 6 0 (1024 < events)
@@ -91,27 +91,27 @@ module _ {K : Type 0} where
         ∷ []
 
     -- the network that the counts keep
-    abbrev pub network-kept : ℕ → ℕ → List K → List (Arc K) → Network K
-    network-kept events arc_count floors arcs = network-of t (take events floors) (take arc_count arcs)
+    abbrev pub network_kept : ℕ → ℕ → List K → List (Arc K) → Network K
+    network_kept events arc_count floors arcs = network_of t (take events floors) (take arc_count arcs)
 
     -- the refusals before the reckoning
     abbrev pub first_rows : Handed K → List Row
-    first_rows h = length_rows (lengths_of h) ++ network-rows h.events h.arc_count (take h.events h.floors) (take h.arc_count h.arcs)
+    first_rows h = length_rows (lengths_of h) ++ network_rows h.events h.arc_count (take h.events h.floors) (take h.arc_count h.arcs)
 
     -- and the ring last
-    abbrev pub ring-rows : List (Arc K) → List Row
-    ring-rows arcs = row 12 0 (HasRing t (placed t arcs)) ∷ []
+    abbrev pub ring_rows : List (Arc K) → List Row
+    ring_rows arcs = row 12 0 (HasRing t (placed t arcs)) ∷ []
 
-    abbrev pub reckon-rows : Handed K → List Row
-    reckon-rows h = first_rows h ++ ring-rows (take h.arc_count h.arcs)
+    abbrev pub reckon_rows : Handed K → List Row
+    reckon_rows h = first_rows h ++ ring_rows (take h.arc_count h.arcs)
 
     -- a ring exists exactly if no table meets the network
     abbrev pub RingExactly : Handed K → Type 0
-    RingExactly h = Passed (first_rows h) → (HasRing t (placed t (take h.arc_count h.arcs)) → NoTable t (network-kept h.events h.arc_count h.floors h.arcs)) × (NoTable t (network-kept h.events h.arc_count h.floors h.arcs) → HasRing t (placed t (take h.arc_count h.arcs)))
+    RingExactly h = Passed (first_rows h) → (HasRing t (placed t (take h.arc_count h.arcs)) → NoTable t (network_kept h.events h.arc_count h.floors h.arcs)) × (NoTable t (network_kept h.events h.arc_count h.floors h.arcs) → HasRing t (placed t (take h.arc_count h.arcs)))
 
     -- taken, the front of the times is the least table and the rest is as it was; refused, all of it is
     abbrev pub TimesHold : ℕ → ℕ → List K → List (Arc K) → List K → List K → Result (Unit {0}) NetworkFault → Type 0
-    TimesHold events arc_count floors arcs was times (Ok x) = Least t (network-kept events arc_count floors arcs) (at t (take events times)) × (drop events times ≡ drop events was)
+    TimesHold events arc_count floors arcs was times (Ok x) = Least t (network_kept events arc_count floors arcs) (at t (take events times)) × (drop events times ≡ drop events was)
     TimesHold events arc_count floors arcs was times (Err f) = times ≡ was
 
     -- refused for a ring, its events stand at the front of ring memory and the rest is as it was; otherwise all of it is

@@ -5,7 +5,7 @@ use Rattle.std.specs.List.{AllByRecursion as All}
 use Rattle.kinds.specs.Time.{Time}
 use Rattle.network.specs.declared.Arc.{Arc}
 use Rattle.network.specs.Network.{UpTo, After, Network, LatestWalks, ends, Least, HasRing, Names, NoTable}
-use Rattle.network.specs.Reckoning.{at, arc-at, placed, network-of}
+use Rattle.network.specs.Reckoning.{at, arc_at, placed, network_of}
 
 -- row j of a memory of rows of n places
 abbrev pub row_of : ℕ → List ℕ → ℕ → List ℕ
@@ -15,9 +15,9 @@ module _ {K : Type 0} (t : Time K) where
   -- arcs that join events, few enough that a number tells each, and none over its size
   pub record Sound (n : ℕ) (arcs : List (Arc K)) : Type 0 where
     pub few : length arcs ≤ 9728
-    pub starts : (k : ℕ) → k < length arcs → (arc-at t arcs k).from < n
-    pub ends : (k : ℕ) → k < length arcs → (arc-at t arcs k).to < n
-    pub short : (k : ℕ) → k < length arcs → t.size (arc-at t arcs k).duration ≤ 100000
+    pub starts : (k : ℕ) → k < length arcs → (arc_at t arcs k).from < n
+    pub ends : (k : ℕ) → k < length arcs → (arc_at t arcs k).to < n
+    pub short : (k : ℕ) → k < length arcs → t.size (arc_at t arcs k).duration ≤ 100000
 
   abbrev pub Sized : ℕ → List K → Type 0
   Sized b xs = (v : ℕ) → v < length xs → t.size (at t xs v) ≤ b
@@ -27,19 +27,19 @@ module _ {K : Type 0} (t : Time K) where
     abbrev pub Source : ℕ → List K → ℕ → K → ℕ → Type 0
     Source m old v x f =
         ((f ≡ 65535) × (x ≡ at t old v))
-        ⊎ ((f < m) × ((arc-at t arcs f).to ≡ v) × (x ≡ t.join (at t old (arc-at t arcs f).from) (arc-at t arcs f).duration) × After t x (at t old v))
+        ⊎ ((f < m) × ((arc_at t arcs f).to ≡ v) × (x ≡ t.join (at t old (arc_at t arcs f).from) (arc_at t arcs f).duration) × After t x (at t old v))
 
     -- one round over the first m arcs
     pub record Round (m : ℕ) (old new : List K) (from : List ℕ) : Type 0 where
       pub keeps : (v : ℕ) → v < length old → UpTo t (at t old v) (at t new v)
-      pub meets : (k : ℕ) → k < m → UpTo t (t.join (at t old (arc-at t arcs k).from) (arc-at t arcs k).duration) (at t new (arc-at t arcs k).to)
+      pub meets : (k : ℕ) → k < m → UpTo t (t.join (at t old (arc_at t arcs k).from) (arc_at t arcs k).duration) (at t new (arc_at t arcs k).to)
       pub source : (v : ℕ) → v < length old → Source m old v (at t new v) (slice_index from v)
 
   module _ (floors : List K) (arcs : List (Arc K)) where
     -- the table of the latest values along at most k arcs
     pub record Latest (k : ℕ) (table : List K) : Type 0 where
       pub same : length table ≡ length floors
-      pub walks : LatestWalks t (network-of t floors arcs) k (at t table)
+      pub walks : LatestWalks t (network_of t floors arcs) k (at t table)
 
     -- what a row tells: how the latest values along j + 1 arcs came from those along j
     pub record Level (j : ℕ) (row : List ℕ) : Type 0 where
@@ -55,7 +55,7 @@ module _ {K : Type 0} (t : Time K) where
     -- a table that a round leaves as it is
     pub record Settled (table : List K) : Type 0 where
       pub latest : Latest (length floors - 1) table
-      pub met : (k : ℕ) → k < length arcs → UpTo t (t.join (at t table (arc-at t arcs k).from) (arc-at t arcs k).duration) (at t table (arc-at t arcs k).to)
+      pub met : (k : ℕ) → k < length arcs → UpTo t (t.join (at t table (arc_at t arcs k).from) (arc_at t arcs k).duration) (at t table (arc_at t arcs k).to)
 
     -- event v still rises in the last round
     pub record Rising (rows : List ℕ) (v : ℕ) : Type 0 where
@@ -74,5 +74,5 @@ module _ {K : Type 0} (t : Time K) where
 
   -- what solving answers: no number and the least times, or how many events of a ring stand at the front of ring memory
   abbrev pub Solved : List K → List (Arc K) → List K → List ℕ → List ℕ → Option ℕ → Type 0
-  Solved floors arcs times was ring None = Least t (network-of t floors arcs) (at t times) × (HasRing t (placed t arcs) → ⊥) × (ring ≡ was)
-  Solved floors arcs times was ring (Some m) = Names t (placed t arcs) (take m ring) × NoTable t (network-of t floors arcs) × (drop m ring ≡ drop m was) × (m ≤ length floors)
+  Solved floors arcs times was ring None = Least t (network_of t floors arcs) (at t times) × (HasRing t (placed t arcs) → ⊥) × (ring ≡ was)
+  Solved floors arcs times was ring (Some m) = Names t (placed t arcs) (take m ring) × NoTable t (network_of t floors arcs) × (drop m ring ≡ drop m was) × (m ≤ length floors)

@@ -5,7 +5,7 @@ ghost use Rattle.std.specs.Prelude.{◌≡◌, ℕ, ◌+◌, ◌-◌, ◌*◌, �
 ghost use Rattle.network.specs.Network.{Least, Ring, Names, HasRing, ends};
 ghost use Rattle.network.specs.Refusals.{Passed, Answers};
 ghost use Rattle.network.specs.Faults.{network_number, network_place};
-ghost use Rattle.network.specs.Reckoning.{at, placed, network-of, SomeOf, Stray, first-stray, lengths, length_rows, network-rows, handed, first_rows, reckon-rows, TimesHold, RingHolds, RingExactly};
+ghost use Rattle.network.specs.Reckoning.{at, placed, network_of, SomeOf, Stray, first_stray, lengths, length_rows, network_rows, handed, first_rows, reckon_rows, TimesHold, RingHolds, RingExactly};
 ghost use Rattle.network.specs.Rounds.{Sound, Sized, Round, Settled, Rising, Turned, Solved};
 
 use kinds::Kind;
@@ -208,7 +208,7 @@ fn solve<K: Kind>(
 
 // The first number in the arcs that names no event.
 fn stray<K: Kind>(events: usize, arcs: &[Arc<K>]) -> Option<u16>
-    ensures { MatchOption result (SomeOf (Stray events) arcs.now → ⊥) (λ p. SomeOf (Stray events) arcs.now × (p ≡ first-stray events arcs.now)) }
+    ensures { MatchOption result (SomeOf (Stray events) arcs.now → ⊥) (λ p. SomeOf (Stray events) arcs.now × (p ≡ first_stray events arcs.now)) }
 {
     for arc in arcs {
         if arc.from as usize >= events {
@@ -284,7 +284,7 @@ fn check_network<K: Kind>(
     floors: &[K],
     arcs: &[Arc<K>],
 ) -> Result<(), NetworkFault>
-    ensures { Answers network_number network_place (network-rows K.Kind.time events arc_count floors.now arcs.now) result }
+    ensures { Answers network_number network_place (network_rows K.Kind.time events arc_count floors.now arcs.now) result }
 {
     if let Some(place) = stray(events, arcs) {
         return Err(NetworkFault::Event { place });
@@ -338,7 +338,7 @@ pub fn reckon<K: Kind>(
     tables: &mut [K],
     marks: &mut [u16],
 ) -> Result<(), NetworkFault>
-    ensures answer { Answers network_number network_place (reckon-rows K.Kind.time (handed events arc_count floors.now arcs.now (length times.old) (length ring.old) (length tables.old) (length marks.old))) result }
+    ensures answer { Answers network_number network_place (reckon_rows K.Kind.time (handed events arc_count floors.now arcs.now (length times.old) (length ring.old) (length tables.old) (length marks.old))) result }
     ensures times { TimesHold K.Kind.time events arc_count floors.now arcs.now times.old times.new result }
     ensures ring { RingHolds K.Kind.time events arc_count arcs.now ring.old ring.new result }
     ensures exactly { RingExactly K.Kind.time (handed events arc_count floors.now arcs.now (length times.old) (length ring.old) (length tables.old) (length marks.old)) }

@@ -7,14 +7,14 @@ use Rattle.network.specs.Refusals.{Answers, Passed}
 use Rattle.records.specs.declared.Track.{Track}
 use Rattle.records.specs.declared.Run.{Run}
 use Rattle.records.specs.declared.Connection.{Connection}
-use Rattle.records.specs.Records.{track-of}
+use Rattle.records.specs.Records.{track_of_lem}
 use Rattle.records.specs.Places.{total, count}
 use Rattle.records.specs.Register.{Memory, register_of}
 use Rattle.records.proofs.Counts.{total_more, total_kept, count_kept}
 use Rattle.rules.specs.declared.faults.PlanFault.{PlanFault}
 use Rattle.rules.specs.declared.switches.Switch.{Switch}
 use Rattle.rules.specs.Faults.{plan_number, plan_place}
-use Rattle.rules.specs.Rows.{SoundDraft, track-rows, run-rows, connection-rows, switch-rows, setting-rows, orders-with}
+use Rattle.rules.specs.Rows.{SoundDraft, track_rows, run_rows, connection_rows, switch_rows, setting_rows, orders_with}
 use Rattle.rules.proofs.Rows.{track_passed, run_passed, connection_passed, setting_named}
 
 -- no more records are entered than there are
@@ -31,64 +31,64 @@ module _ {K : Type 0} (t : Time K) where
     pub long_runs : length (take m.run_count m.runs) ≡ m.run_count
     long_runs = length-take-le m.run_count m.runs fits.1.0
 
-    pub track_room : (x : Track K) (r : Result (Unit {0}) PlanFault) → Answers plan_number plan_place (track-rows t (register_of t m) x) r → IfOk r (λ _. SoundDraft t m × (m.track_count < 64))
+    pub track_room : (x : Track K) (r : Result (Unit {0}) PlanFault) → Answers plan_number plan_place (track_rows t (register_of t m) x) r → IfOk r (λ _. SoundDraft t m × (m.track_count < 64))
     track_room x (Err f) a = tt
     track_room x (Ok u) a = let e = length-take-le m.track_count m.tracks fits.0 in (sound, omega (arith, (track_passed t (register_of t m) x a).1))
 
-    pub run_room : (x : Run K) (r : Result (Unit {0}) PlanFault) → Answers plan_number plan_place (run-rows t (register_of t m) x) r → IfOk r (λ _. SoundDraft t m × ((m.run_count < 512) × ((x.track < 64) × (orders-with t (register_of t m) x.track ≤ 4096))))
+    pub run_room : (x : Run K) (r : Result (Unit {0}) PlanFault) → Answers plan_number plan_place (run_rows t (register_of t m) x) r → IfOk r (λ _. SoundDraft t m × ((m.run_count < 512) × ((x.track < 64) × (orders_with t (register_of t m) x.track ≤ 4096))))
     run_room x (Err f) a = tt
     run_room x (Ok u) a =
         let h = run_passed t (register_of t m) x a in
         let e = long_runs in (sound, (omega (arith, h.room), (omega (arith, h.linked.1.0, sound.stored.limits.few_tracks), h.orders)))
 
-    pub connection_room : (x : Connection K) (r : Result (Unit {0}) PlanFault) → Answers plan_number plan_place (connection-rows t (register_of t m) x) r → IfOk r (λ _. SoundDraft t m × (m.connection_count < 512))
+    pub connection_room : (x : Connection K) (r : Result (Unit {0}) PlanFault) → Answers plan_number plan_place (connection_rows t (register_of t m) x) r → IfOk r (λ _. SoundDraft t m × (m.connection_count < 512))
     connection_room x (Err f) a = tt
     connection_room x (Ok u) a = let e = length-take-le m.connection_count m.connections fits.1.1 in (sound, omega (arith, (connection_passed t (register_of t m) x a).1))
 
-    pub switch_known : (s : Switch) (r : Result (Unit {0}) PlanFault) → Answers plan_number plan_place (switch-rows t (register_of t m) s) r → IfOk r (λ _. SoundDraft t m × Passed (switch-rows t (register_of t m) s))
+    pub switch_known : (s : Switch) (r : Result (Unit {0}) PlanFault) → Answers plan_number plan_place (switch_rows t (register_of t m) s) r → IfOk r (λ _. SoundDraft t m × Passed (switch_rows t (register_of t m) s))
     switch_known s (Err f) a = tt
     switch_known s (Ok u) a = (sound, a)
 
-    pub preset_known : (s : Switch) (v : ℕ) (r : Result (Unit {0}) PlanFault) → Answers plan_number plan_place (setting-rows t (register_of t m) s v) r → IfOk r (λ _. SoundDraft t m × Passed (switch-rows t (register_of t m) s))
+    pub preset_known : (s : Switch) (v : ℕ) (r : Result (Unit {0}) PlanFault) → Answers plan_number plan_place (setting_rows t (register_of t m) s v) r → IfOk r (λ _. SoundDraft t m × Passed (switch_rows t (register_of t m) s))
     preset_known s v (Err f) a = tt
     preset_known s v (Ok u) a = (sound, setting_named t (register_of t m) s v a)
 
     -- the track of an entered run
-    pub track_was : (k : ℕ) → k < m.run_count → track-of t (take m.run_count m.runs) k ≡ track-of t m.runs k
+    pub track_was : (k : ℕ) → k < m.run_count → track_of_lem t (take m.run_count m.runs) k ≡ track_of_lem t m.runs k
     track_was k h = ap (λ y. y.track) (get_or-take m.run_count m.runs k _ h)
 
-    pub on_tracks : (k : ℕ) → k < m.run_count → track-of t m.runs k < 64
+    pub on_tracks : (k : ℕ) → k < m.run_count → track_of_lem t m.runs k < 64
     on_tracks k h =
         let e = long_runs in
         let s = track_was k h in
         omega (arith, (sound.stored.limits.runs.each k (omega arith)).0.1.0, sound.stored.limits.few_tracks)
 
-    pub orders_was : total (track-of t m.runs) m.run_count ≡ total (track-of t (take m.run_count m.runs)) m.run_count
-    orders_was = total_kept (track-of t m.runs) (track-of t (take m.run_count m.runs)) m.run_count (λ k h. sym (track_was k h))
+    pub orders_was : total (track_of_lem t m.runs) m.run_count ≡ total (track_of_lem t (take m.run_count m.runs)) m.run_count
+    orders_was = total_kept (track_of_lem t m.runs) (track_of_lem t (take m.run_count m.runs)) m.run_count (λ k h. sym (track_was k h))
 
     -- one run more
     module _ (x : Run K) (room : m.run_count < 512) where
       inside : m.run_count < length m.runs
       inside = omega (arith, sound.listed.runs, room)
 
-      track_new : track-of t (set m.runs m.run_count x) m.run_count ≡ x.track
+      track_new : track_of_lem t (set m.runs m.run_count x) m.run_count ≡ x.track
       track_new = ap (λ y. y.track) (get_or-set_same m.runs m.run_count x _ inside)
 
-      track_old : (k : ℕ) → k < m.run_count → track-of t (set m.runs m.run_count x) k ≡ track-of t m.runs k
+      track_old : (k : ℕ) → k < m.run_count → track_of_lem t (set m.runs m.run_count x) k ≡ track_of_lem t m.runs k
       track_old k h = ap (λ y. y.track) (get_or-set_other m.runs m.run_count k x _ (omega arith))
 
-      pub on_tracks_more : x.track < 64 → (k : ℕ) → k < m.run_count + 1 → track-of t (set m.runs m.run_count x) k < 64
+      pub on_tracks_more : x.track < 64 → (k : ℕ) → k < m.run_count + 1 → track_of_lem t (set m.runs m.run_count x) k < 64
       on_tracks_more small k h =
           elim (cases_lt k m.run_count) [
             | inl l ↦ (let e = track_old k l in let s = on_tracks k l in omega arith)
-            | inr l ↦ (let q : k ≡ m.run_count = omega arith in let z = ap (track-of t (set m.runs m.run_count x)) q in let e = track_new in omega arith)
+            | inr l ↦ (let q : k ≡ m.run_count = omega arith in let z = ap (track_of_lem t (set m.runs m.run_count x)) q in let e = track_new in omega arith)
           ]
 
-      pub orders_more : total (track-of t (set m.runs m.run_count x)) (m.run_count + 1) ≡ total (track-of t (take m.run_count m.runs)) m.run_count + count (track-of t (take m.run_count m.runs)) x.track m.run_count
+      pub orders_more : total (track_of_lem t (set m.runs m.run_count x)) (m.run_count + 1) ≡ total (track_of_lem t (take m.run_count m.runs)) m.run_count + count (track_of_lem t (take m.run_count m.runs)) x.track m.run_count
       orders_more =
           let n = m.run_count in
-          let f = track-of t (take n m.runs) in
-          let g = track-of t (set m.runs n x) in
+          let f = track_of_lem t (take n m.runs) in
+          let g = track_of_lem t (set m.runs n x) in
           let same : (k : ℕ) → k < n → g k ≡ f k = λ k h. track_old k h ∙ sym (track_was k h) in
           let a = total_more g n in
           let b = total_kept g f n same in
@@ -96,5 +96,5 @@ module _ {K : Type 0} (t : Time K) where
           let d = count_kept g f x.track n same in omega arith
 
       -- the orders before the run, and with those that it brings
-      pub orders_parts : (first all : ℕ) (runs : List (Run K)) → first ≡ total (track-of t m.runs) m.run_count → runs ≡ set m.runs m.run_count x → all ≡ total (track-of t runs) (m.run_count + 1) → (first ≡ total (track-of t (take m.run_count m.runs)) m.run_count) × (all ≡ total (track-of t (take m.run_count m.runs)) m.run_count + count (track-of t (take m.run_count m.runs)) x.track m.run_count)
-      orders_parts first all runs before written after = (before ∙ orders_was, after ∙ ap (λ xs. total (track-of t xs) (m.run_count + 1)) written ∙ orders_more)
+      pub orders_parts : (first all : ℕ) (runs : List (Run K)) → first ≡ total (track_of_lem t m.runs) m.run_count → runs ≡ set m.runs m.run_count x → all ≡ total (track_of_lem t runs) (m.run_count + 1) → (first ≡ total (track_of_lem t (take m.run_count m.runs)) m.run_count) × (all ≡ total (track_of_lem t (take m.run_count m.runs)) m.run_count + count (track_of_lem t (take m.run_count m.runs)) x.track m.run_count)
+      orders_parts first all runs before written after = (before ∙ orders_was, after ∙ ap (λ xs. total (track_of_lem t xs) (m.run_count + 1)) written ∙ orders_more)

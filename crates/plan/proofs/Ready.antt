@@ -10,10 +10,10 @@ use Rattle.records.specs.Register.{Memory, register_of}
 use Rattle.records.specs.Stored.{Stored, RunStored, SizedIfAny}
 use Rattle.rules.specs.declared.faults.PlanFault.{PlanFault}
 use Rattle.rules.specs.Faults.{plan_number, plan_place}
-use Rattle.rules.specs.Rows.{SoundOpen, Over, Untimely, Given, report-rows, hold-rows, release-rows, turning-rows, setting-place}
+use Rattle.rules.specs.Rows.{SoundOpen, Over, Untimely, Given, report_rows, hold_rows, release_rows, turning_rows, setting_place}
 use Rattle.rules.proofs.Rows.{setting_flag, turning_set}
 use Rattle.rules.specs.declared.switches.Switch.{Switch}
-use Rattle.plan.specs.Steps.{with-runs, reported, holding, report-memory, hold-memory, switch-memory}
+use Rattle.plan.specs.Steps.{with_runs, reported, holding, report_memory, hold_memory, switch_memory}
 use Rattle.plan.specs.Calls.{Lengths, Listed, Ready}
 use Rattle.plan.proofs.Stays.{stored_settings, stored_run, reported_stored, holding_stored}
 
@@ -44,10 +44,10 @@ module _ {K : Type 0} (t : Time K) where
     run_good : (r : ℕ) → r < m.run_count → RunStored t (length (take m.track_count m.tracks)) r (run_at t m.runs r)
     run_good r h = let e = long_runs in let P : Run K → Type 0 = RunStored t (length (take m.track_count m.tracks)) r in subst P (run_is r h) (sound.stored.limits.runs.each r (omega arith))
 
-    changed : (r : ℕ) (x : Run K) → r < m.run_count → x.track ≡ (run_at t m.runs r).track → RunStored t (length (take m.track_count m.tracks)) r x → Ready t l m (with-runs m (set m.runs r x))
+    changed : (r : ℕ) (x : Run K) → r < m.run_count → x.track ≡ (run_at t m.runs r).track → RunStored t (length (take m.track_count m.tracks)) r x → Ready t l m (with_runs m (set m.runs r x))
     changed r x h e good = record { listed = listed; records = sound.listed; stored = stored_run t m r x sound.listed.runs sound.stored h e good }
 
-    pub report_ready : (v : ℕ) (at : K) (r : Result (Unit {0}) PlanFault) → Answers plan_number plan_place (report-rows t (register_of t m) v at) r → IfOk r (λ _. (v / 2 < length m.runs) × Ready t l m (report-memory t m v at))
+    pub report_ready : (v : ℕ) (at : K) (r : Result (Unit {0}) PlanFault) → Answers plan_number plan_place (report_rows t (register_of t m) v at) r → IfOk r (λ _. (v / 2 < length m.runs) × Ready t l m (report_memory t m v at))
     report_ready v at (Err f) a = tt
     report_ready v at (Ok x) a =
         let e = long_runs in
@@ -67,7 +67,7 @@ module _ {K : Type 0} (t : Time K) where
               (run_good (v / 2) inside)),
         )
 
-    pub hold_ready : (r : ℕ) (until : K) (a : Result (Unit {0}) PlanFault) → Answers plan_number plan_place (hold-rows t (register_of t m) r until) a → IfOk a (λ _. (r < length m.runs) × Ready t l m (hold-memory t m r (Some until)))
+    pub hold_ready : (r : ℕ) (until : K) (a : Result (Unit {0}) PlanFault) → Answers plan_number plan_place (hold_rows t (register_of t m) r until) a → IfOk a (λ _. (r < length m.runs) × Ready t l m (hold_memory t m r (Some until)))
     hold_ready r until (Err f) a = tt
     hold_ready r until (Ok x) a =
         let e = long_runs in
@@ -76,7 +76,7 @@ module _ {K : Type 0} (t : Time K) where
         let inside : r < m.run_count = elim (cases_lt r (length (take m.run_count m.runs))) [ inl h ↦ omega arith | inr h ↦ absurd (a.0 h) ] in
         (omega arith, changed r (holding (run_at t m.runs r) (Some until)) inside refl (holding_stored t _ r (run_at t m.runs r) (Some until) (not_over until a.1.0) (run_good r inside)))
 
-    pub release_ready : (plan slip-plan r : ℕ) (a : Result (Unit {0}) PlanFault) → Answers plan_number plan_place (release-rows t (register_of t m) plan slip-plan r) a → IfOk a (λ _. (r < length m.runs) × Ready t l m (hold-memory t m r None))
+    pub release_ready : (plan slip-plan r : ℕ) (a : Result (Unit {0}) PlanFault) → Answers plan_number plan_place (release_rows t (register_of t m) plan slip-plan r) a → IfOk a (λ _. (r < length m.runs) × Ready t l m (hold_memory t m r None))
     release_ready plan slip-plan r (Err f) a = tt
     release_ready plan slip-plan r (Ok x) a =
         let e = long_runs in
@@ -85,8 +85,8 @@ module _ {K : Type 0} (t : Time K) where
         let inside : r < m.run_count = elim (cases_lt r (length (take m.run_count m.runs))) [ inl h ↦ omega arith | inr h ↦ absurd (a.1.0 h) ] in
         (omega arith, changed r (holding (run_at t m.runs r) None) inside refl (holding_stored t _ r (run_at t m.runs r) None tt (run_good r inside)))
 
-    pub turning_ready : (s : Switch) (setting : ℕ) → Passed (turning-rows t (register_of t m) s setting) → (p : ℕ) → p ≡ setting-place t (register_of t m) s → p < 4608 → (p ≡ setting-place t (register_of t m) s) × (p < length m.settings) × Ready t l m (switch-memory t m s setting)
+    pub turning_ready : (s : Switch) (setting : ℕ) → Passed (turning_rows t (register_of t m) s setting) → (p : ℕ) → p ≡ setting_place t (register_of t m) s → p < 4608 → (p ≡ setting_place t (register_of t m) s) × (p < length m.settings) × Ready t l m (switch_memory t m s setting)
     turning_ready s setting passed p e h =
         let small = setting_flag t (register_of t m) s setting (turning_set t (register_of t m) s setting passed) in
         let long = sound.listed.settings in
-        (e, omega arith, record { listed = listed; records = sound.listed; stored = stored_settings t m (setting-place t (register_of t m) s) setting small sound.stored })
+        (e, omega arith, record { listed = listed; records = sound.listed; stored = stored_settings t m (setting_place t (register_of t m) s) setting small sound.stored })

@@ -14,7 +14,7 @@ use Rattle.rules.specs.Faults.{plan_number, plan_place}
 use Rattle.records.specs.Register.{Memory}
 use Rattle.rules.specs.declared.switches.Switch.{Switch}
 use Rattle.rules.specs.declared.switches.Switch.TheVariants as switch
-use Rattle.plan.specs.Calls.{Lengths, ring-rows, RingLeft, Reckons, turning-call-rows}
+use Rattle.plan.specs.Calls.{Lengths, ring_rows, RingLeft, Reckons, turning_call_rows}
 
 abbrev pub failed : (X : Type 0) → PlanFault → Result X PlanFault
 failed X f = Err f
@@ -30,7 +30,7 @@ lifted (Err f) = Err (fault.Network f)
 module _ {K : Type 0} (t : Time K) (rows : List Row) (R : Register K) where
   pub reckoned : Passed rows → (was times : List K) (ring_was ring : List ℕ) (r : Result (Unit {0}) NetworkFault) → TimesAfter t R was times r → RingAfter t R ring_was ring r → Reckons t rows R was times ring_was ring (lifted r)
   reckoned passed was times ring_was ring (Ok x) shown quiet = record {
-    answers = passed_more rows (ring-rows t R) passed ((λ none. none (at t times) shown.0.table shown.0.meets), tt);
+    answers = passed_more rows (ring_rows t R) passed ((λ none. none (at t times) shown.0.table shown.0.meets), tt);
     shows = shown;
     names = quiet.1;
   }
@@ -40,7 +40,7 @@ module _ {K : Type 0} (t : Time K) (rows : List Row) (R : Register K) where
   reckoned passed was times ring_was ring (Err network.Duration) shown found = absurd found
   reckoned passed was times ring_was ring (Err network.Count) shown found = absurd found
   reckoned passed was times ring_was ring (Err (network.Ring count)) shown found = record {
-    answers = first_more rows (ring-rows t R) 12 0 passed (inl (found.none, refl, refl));
+    answers = first_more rows (ring_rows t R) 12 0 passed (inl (found.none, refl, refl));
     shows = shown;
     names = (found.names, found.rest, found.few);
   }
@@ -79,12 +79,12 @@ module _ {K : Type 0} (t : Time K) (rows : List Row) (R : Register K) where
   -- refused before the reckoning
   pub refused : (X : Type 0) → Under 12 rows → (times : List K) (ring : List ℕ) (f : PlanFault) → First rows (plan_number f) (plan_place f) → Reckons t rows R times times ring ring (failed X f)
   refused X u times ring f h = record {
-    answers = first_front rows (ring-rows t R) _ _ h;
+    answers = first_front rows (ring_rows t R) _ _ h;
     shows = refl;
     names = quiet u ring f h;
   }
 
 -- the rows of turning a setting have numbers below that of a ring
-pub turning_under : {K : Type 0} (t : Time K) (l : Lengths) (m : Memory K) (shown : List K) (s : Switch) (setting : ℕ) → Under 12 (turning-call-rows t l m shown s setting)
+pub turning_under : {K : Type 0} (t : Time K) (l : Lengths) (m : Memory K) (shown : List K) (s : Switch) (setting : ℕ) → Under 12 (turning_call_rows t l m shown s setting)
 turning_under t l m shown (switch.Order i j) setting = (omega arith, (omega arith, (omega arith, (omega arith, (omega arith, (omega arith, (omega arith, (omega arith, (omega arith, (omega arith, (omega arith, (omega arith, tt))))))))))))
 turning_under t l m shown (switch.Connection c) setting = (omega arith, (omega arith, (omega arith, (omega arith, (omega arith, (omega arith, (omega arith, (omega arith, (omega arith, tt)))))))))

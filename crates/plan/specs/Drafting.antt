@@ -5,30 +5,30 @@ use Rattle.network.specs.Refusals.{Row}
 use Rattle.records.specs.declared.Track.{Track}
 use Rattle.records.specs.declared.Run.{Run}
 use Rattle.records.specs.declared.Connection.{Connection}
-use Rattle.records.specs.Records.{track-of}
+use Rattle.records.specs.Records.{track_of_lem}
 use Rattle.records.specs.Places.{total, count}
 use Rattle.records.specs.Register.{Memory, register_of}
 use Rattle.rules.specs.declared.switches.Switch.{Switch}
-use Rattle.rules.specs.Rows.{draft-rows, track-rows, run-rows, connection-rows, switch-rows, setting-rows}
+use Rattle.rules.specs.Rows.{draft_rows, track_rows, run_rows, connection_rows, switch_rows, setting_rows}
 use Rattle.plan.specs.declared.states.Draft.{Draft}
 use Rattle.plan.specs.Steps.{unused}
 
 -- The rows of each call: what every call on a draft refuses, then its own.
 module _ {K : Type 0} (t : Time K) (m : Memory K) where
-  abbrev pub track-call-rows : Track K → List Row
-  track-call-rows x = draft-rows t m ++ track-rows t (register_of t m) x
+  abbrev pub track_call_rows : Track K → List Row
+  track_call_rows x = draft_rows t m ++ track_rows t (register_of t m) x
 
-  abbrev pub run-call-rows : Run K → List Row
-  run-call-rows x = draft-rows t m ++ run-rows t (register_of t m) x
+  abbrev pub run_call_rows : Run K → List Row
+  run_call_rows x = draft_rows t m ++ run_rows t (register_of t m) x
 
-  abbrev pub connection-call-rows : Connection K → List Row
-  connection-call-rows x = draft-rows t m ++ connection-rows t (register_of t m) x
+  abbrev pub connection_call_rows : Connection K → List Row
+  connection_call_rows x = draft_rows t m ++ connection_rows t (register_of t m) x
 
-  abbrev pub preset-call-rows : Switch → ℕ → List Row
-  preset-call-rows s setting = draft-rows t m ++ setting-rows t (register_of t m) s setting
+  abbrev pub preset_call_rows : Switch → ℕ → List Row
+  preset_call_rows s setting = draft_rows t m ++ setting_rows t (register_of t m) s setting
 
-  abbrev pub setting-call-rows : Switch → List Row
-  setting-call-rows s = draft-rows t m ++ switch-rows t (register_of t m) s
+  abbrev pub setting_call_rows : Switch → List Row
+  setting_call_rows s = draft_rows t m ++ switch_rows t (register_of t m) s
 
 -- a draft of which nothing is entered
 abbrev pub blank : ℕ → Draft
@@ -65,5 +65,5 @@ module _ {K : Type 0} where
   pub record RunEntered (t : Time K) (d d' : Draft) (runs runs' : List (Run K)) (settings settings' : List ℕ) (x : Run K) (n : ℕ) : Type 0 where
     pub last : n ≡ d.runs
     pub written : runs' ≡ slice_set runs n (unused x)
-    pub ahead : settings' ≡ cleared settings (total (track-of t (take n runs)) n) (count (track-of t (take n runs)) x.track n)
+    pub ahead : settings' ≡ cleared settings (total (track_of_lem t (take n runs)) n) (count (track_of_lem t (take n runs)) x.track n)
     pub counted : d' ≡ with_run d

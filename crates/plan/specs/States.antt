@@ -8,8 +8,8 @@ use Rattle.plan.specs.declared.states.Draft.{Draft}
 use Rattle.plan.specs.declared.states.Open.{Open}
 
 module _ {K : Type 0} where
-  abbrev pub draft-memory : Draft → List (Track K) → List (Run K) → List (Connection K) → List ℕ → Memory K
-  draft-memory d tracks runs connections settings = record {
+  abbrev pub draft_memory : Draft → List (Track K) → List (Run K) → List (Connection K) → List ℕ → Memory K
+  draft_memory d tracks runs connections settings = record {
     tracks = tracks;
     runs = runs;
     connections = connections;
@@ -19,8 +19,8 @@ module _ {K : Type 0} where
     connection_count = d.connections;
   }
 
-  abbrev pub open-memory : Open → List (Track K) → List (Run K) → List (Connection K) → List ℕ → Memory K
-  open-memory o tracks runs connections settings = record {
+  abbrev pub open_memory : Open → List (Track K) → List (Run K) → List (Connection K) → List ℕ → Memory K
+  open_memory o tracks runs connections settings = record {
     tracks = tracks;
     runs = runs;
     connections = connections;

@@ -4,10 +4,10 @@ ghost use Rattle.network.specs.Refusals.{Answers};
 ghost use Rattle.records.specs.Register.{register_of};
 ghost use Rattle.records.specs.Stored.{Stored};
 ghost use Rattle.rules.specs.Faults.{plan_number, plan_place};
-ghost use Rattle.rules.specs.Rows.{setting-place, RecordsListed, SoundOpen, open-rows, report-rows, hold-rows, release-rows, turning-rows};
-ghost use Rattle.plan.specs.States.{open-memory};
-ghost use Rattle.plan.specs.Steps.{report-memory, hold-memory, switch-memory};
-ghost use Rattle.plan.specs.Calls.{Listed, lengths, length_rows, open-call-rows, report-call-rows, hold-call-rows, release-call-rows, turning-call-rows, Ready};
+ghost use Rattle.rules.specs.Rows.{setting_place, RecordsListed, SoundOpen, open_rows, report_rows, hold_rows, release_rows, turning_rows};
+ghost use Rattle.plan.specs.States.{open_memory};
+ghost use Rattle.plan.specs.Steps.{report_memory, hold_memory, switch_memory};
+ghost use Rattle.plan.specs.Calls.{Listed, lengths, length_rows, open_call_rows, report_call_rows, hold_call_rows, release_call_rows, turning_call_rows, Ready};
 
 use crate::Open;
 use crate::changes::open_view;
@@ -82,8 +82,8 @@ fn admit<K: Kind>(
     tables: usize,
     marks: usize,
 ) -> Result<(), PlanFault>
-    ensures rows { Answers plan_number plan_place (open-call-rows K.Kind.time (lengths written ring counts sums befores floors arcs tables marks) (open-memory plan.now tracks.now runs.now connections.now settings.now) times.now) result }
-    ensures sound { OnOk result (Listed (lengths written ring counts sums befores floors arcs tables marks) × SoundOpen K.Kind.time (open-memory plan.now tracks.now runs.now connections.now settings.now) times.now) }
+    ensures rows { Answers plan_number plan_place (open_call_rows K.Kind.time (lengths written ring counts sums befores floors arcs tables marks) (open_memory plan.now tracks.now runs.now connections.now settings.now) times.now) result }
+    ensures sound { OnOk result (Listed (lengths written ring counts sums befores floors arcs tables marks) × SoundOpen K.Kind.time (open_memory plan.now tracks.now runs.now connections.now settings.now) times.now) }
 {
     check_work(
         written, ring, counts, sums, befores, floors, arcs, tables, marks,
@@ -110,8 +110,8 @@ pub(crate) fn admit_report<K: Kind>(
     event: u16,
     at: K,
 ) -> Result<(), PlanFault>
-    ensures rows { Answers plan_number plan_place (report-call-rows K.Kind.time (lengths (length times.now) ring counts sums befores floors arcs tables marks) (open-memory plan.now tracks.now runs.now connections.now settings.now) times.now event at) result }
-    ensures ready { OnOk result ((event / 2 < length runs.now) × Ready K.Kind.time (lengths (length times.now) ring counts sums befores floors arcs tables marks) (open-memory plan.now tracks.now runs.now connections.now settings.now) (report-memory K.Kind.time (open-memory plan.now tracks.now runs.now connections.now settings.now) event at)) }
+    ensures rows { Answers plan_number plan_place (report_call_rows K.Kind.time (lengths (length times.now) ring counts sums befores floors arcs tables marks) (open_memory plan.now tracks.now runs.now connections.now settings.now) times.now event at) result }
+    ensures ready { OnOk result ((event / 2 < length runs.now) × Ready K.Kind.time (lengths (length times.now) ring counts sums befores floors arcs tables marks) (open_memory plan.now tracks.now runs.now connections.now settings.now) (report_memory K.Kind.time (open_memory plan.now tracks.now runs.now connections.now settings.now) event at)) }
 {
     admit(
         plan,
@@ -153,8 +153,8 @@ pub(crate) fn admit_hold<K: Kind>(
     run: u16,
     until: K,
 ) -> Result<(), PlanFault>
-    ensures rows { Answers plan_number plan_place (hold-call-rows K.Kind.time (lengths (length times.now) ring counts sums befores floors arcs tables marks) (open-memory plan.now tracks.now runs.now connections.now settings.now) times.now run until) result }
-    ensures ready { OnOk result ((run < length runs.now) × Ready K.Kind.time (lengths (length times.now) ring counts sums befores floors arcs tables marks) (open-memory plan.now tracks.now runs.now connections.now settings.now) (hold-memory K.Kind.time (open-memory plan.now tracks.now runs.now connections.now settings.now) run (Some until))) }
+    ensures rows { Answers plan_number plan_place (hold_call_rows K.Kind.time (lengths (length times.now) ring counts sums befores floors arcs tables marks) (open_memory plan.now tracks.now runs.now connections.now settings.now) times.now run until) result }
+    ensures ready { OnOk result ((run < length runs.now) × Ready K.Kind.time (lengths (length times.now) ring counts sums befores floors arcs tables marks) (open_memory plan.now tracks.now runs.now connections.now settings.now) (hold_memory K.Kind.time (open_memory plan.now tracks.now runs.now connections.now settings.now) run (Some until))) }
 {
     admit(
         plan,
@@ -196,8 +196,8 @@ pub(crate) fn admit_release<K: Kind>(
     slip_plan: u32,
     slip_run: u16,
 ) -> Result<(), PlanFault>
-    ensures rows { Answers plan_number plan_place (release-call-rows K.Kind.time (lengths (length times.now) ring counts sums befores floors arcs tables marks) (open-memory plan.now tracks.now runs.now connections.now settings.now) times.now plan.now.number slip_plan slip_run) result }
-    ensures ready { OnOk result ((slip_run < length runs.now) × Ready K.Kind.time (lengths (length times.now) ring counts sums befores floors arcs tables marks) (open-memory plan.now tracks.now runs.now connections.now settings.now) (hold-memory K.Kind.time (open-memory plan.now tracks.now runs.now connections.now settings.now) slip_run None)) }
+    ensures rows { Answers plan_number plan_place (release_call_rows K.Kind.time (lengths (length times.now) ring counts sums befores floors arcs tables marks) (open_memory plan.now tracks.now runs.now connections.now settings.now) times.now plan.now.number slip_plan slip_run) result }
+    ensures ready { OnOk result ((slip_run < length runs.now) × Ready K.Kind.time (lengths (length times.now) ring counts sums befores floors arcs tables marks) (open_memory plan.now tracks.now runs.now connections.now settings.now) (hold_memory K.Kind.time (open_memory plan.now tracks.now runs.now connections.now settings.now) slip_run None)) }
 {
     admit(
         plan,
@@ -241,8 +241,8 @@ pub(crate) fn admit_turning<K: Kind>(
     switch: Switch,
     setting: u8,
 ) -> Result<usize, PlanFault>
-    ensures rows { Answers plan_number plan_place (turning-call-rows K.Kind.time (lengths written ring counts sums befores floors arcs tables marks) (open-memory plan.now tracks.now runs.now connections.now settings.now) times.now switch setting) result }
-    ensures ready { IfOk result (λ p. (p ≡ setting-place K.Kind.time (register_of K.Kind.time (open-memory plan.now tracks.now runs.now connections.now settings.now)) switch) × (p < length settings.now) × Ready K.Kind.time (lengths written ring counts sums befores floors arcs tables marks) (open-memory plan.now tracks.now runs.now connections.now settings.now) (switch-memory K.Kind.time (open-memory plan.now tracks.now runs.now connections.now settings.now) switch setting)) }
+    ensures rows { Answers plan_number plan_place (turning_call_rows K.Kind.time (lengths written ring counts sums befores floors arcs tables marks) (open_memory plan.now tracks.now runs.now connections.now settings.now) times.now switch setting) result }
+    ensures ready { IfOk result (λ p. (p ≡ setting_place K.Kind.time (register_of K.Kind.time (open_memory plan.now tracks.now runs.now connections.now settings.now)) switch) × (p < length settings.now) × Ready K.Kind.time (lengths written ring counts sums befores floors arcs tables marks) (open_memory plan.now tracks.now runs.now connections.now settings.now) (switch_memory K.Kind.time (open_memory plan.now tracks.now runs.now connections.now settings.now) switch setting)) }
 {
     admit(
         plan,

@@ -4,7 +4,7 @@ ghost use Rattle.records.specs.Register.{seen, register_of};
 ghost use Rattle.records.specs.Stored.{Stored};
 ghost use Rattle.rules.specs.Rows.{RecordsListed};
 ghost use Rattle.force.specs.Reckoned.{TimesAfter, RingAfter};
-ghost use Rattle.plan.specs.States.{open-memory};
+ghost use Rattle.plan.specs.States.{open_memory};
 ghost use Rattle.plan.specs.Calls.{Listed, lengths};
 
 use crate::Open;
@@ -21,7 +21,7 @@ pub(crate) fn open_view<'t, 'r, 'c, 's, K: Kind>(
     connections: &'c [Connection<K>],
     settings: &'s [u8],
 ) -> View<'t, 'r, 'c, 's, K>
-    ensures { seen result ≡ open-memory plan.now tracks.now runs.now connections.now settings.now }
+    ensures { seen result ≡ open_memory plan.now tracks.now runs.now connections.now settings.now }
 {
     View {
         tracks,
@@ -61,11 +61,11 @@ pub(crate) fn replace_run<K: Kind>(
     run: Run<K>,
 ) -> Result<(), NetworkFault>
     requires inside { r < length runs.old }
-    requires records { RecordsListed (open-memory plan.now tracks.now runs.old connections.now settings.now) }
+    requires records { RecordsListed (open_memory plan.now tracks.now runs.old connections.now settings.now) }
     requires listed { Listed (lengths (length times.old) (length ring.old) (length counts.old) (length sums.old) (length befores.old) (length floors.old) (length arcs.old) (length tables.old) (length marks.old)) }
-    requires stored { Stored K.Kind.time (open-memory plan.now tracks.now (slice_set runs.old r run) connections.now settings.now) }
-    ensures times { TimesAfter K.Kind.time (register_of K.Kind.time (open-memory plan.now tracks.now (slice_set runs.old r run) connections.now settings.now)) times.old times.new result }
-    ensures ring { RingAfter K.Kind.time (register_of K.Kind.time (open-memory plan.now tracks.now (slice_set runs.old r run) connections.now settings.now)) ring.old ring.new result }
+    requires stored { Stored K.Kind.time (open_memory plan.now tracks.now (slice_set runs.old r run) connections.now settings.now) }
+    ensures times { TimesAfter K.Kind.time (register_of K.Kind.time (open_memory plan.now tracks.now (slice_set runs.old r run) connections.now settings.now)) times.old times.new result }
+    ensures ring { RingAfter K.Kind.time (register_of K.Kind.time (open_memory plan.now tracks.now (slice_set runs.old r run) connections.now settings.now)) ring.old ring.new result }
     ensures runs { MatchResult result (λ _. runs.new ≡ slice_set runs.old r run) (λ _. runs.new ≡ runs.old) }
 {
     let old = run_of(runs, r);
@@ -110,11 +110,11 @@ pub(crate) fn replace_setting<K: Kind>(
     setting: u8,
 ) -> Result<(), NetworkFault>
     requires inside { place < length settings.old }
-    requires records { RecordsListed (open-memory plan.now tracks.now runs.now connections.now settings.old) }
+    requires records { RecordsListed (open_memory plan.now tracks.now runs.now connections.now settings.old) }
     requires listed { Listed (lengths (length times.old) (length ring.old) (length counts.old) (length sums.old) (length befores.old) (length floors.old) (length arcs.old) (length tables.old) (length marks.old)) }
-    requires stored { Stored K.Kind.time (open-memory plan.now tracks.now runs.now connections.now (slice_set settings.old place setting)) }
-    ensures times { TimesAfter K.Kind.time (register_of K.Kind.time (open-memory plan.now tracks.now runs.now connections.now (slice_set settings.old place setting))) times.old times.new result }
-    ensures ring { RingAfter K.Kind.time (register_of K.Kind.time (open-memory plan.now tracks.now runs.now connections.now (slice_set settings.old place setting))) ring.old ring.new result }
+    requires stored { Stored K.Kind.time (open_memory plan.now tracks.now runs.now connections.now (slice_set settings.old place setting)) }
+    ensures times { TimesAfter K.Kind.time (register_of K.Kind.time (open_memory plan.now tracks.now runs.now connections.now (slice_set settings.old place setting))) times.old times.new result }
+    ensures ring { RingAfter K.Kind.time (register_of K.Kind.time (open_memory plan.now tracks.now runs.now connections.now (slice_set settings.old place setting))) ring.old ring.new result }
     ensures settings { MatchResult result (λ _. settings.new ≡ slice_set settings.old place setting) (λ _. settings.new ≡ settings.old) }
 {
     let old = settings[place];

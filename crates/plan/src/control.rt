@@ -2,11 +2,11 @@
 ghost use Rattle.std.specs.Prelude.{◌≡◌, ℕ, ◌/◌, ◌%◌, ◌<◌, ◌≤◌, length, IfOk, IfErr, Some, None, MatchResult, slice_set};
 ghost use Rattle.records.specs.Records.{run_at};
 ghost use Rattle.records.specs.Register.{register_of};
-ghost use Rattle.plan.specs.States.{open-memory};
-ghost use Rattle.plan.specs.Steps.{reported, report-memory, holding, hold-memory, switch-memory};
-ghost use Rattle.rules.specs.Rows.{setting-place};
+ghost use Rattle.plan.specs.States.{open_memory};
+ghost use Rattle.plan.specs.Steps.{reported, report_memory, holding, hold_memory, switch_memory};
+ghost use Rattle.rules.specs.Rows.{setting_place};
 ghost use Rattle.rules.specs.declared.switches.Switch.TheVariants as named;
-ghost use Rattle.plan.specs.Calls.{lengths, report-call-rows, hold-call-rows, release-call-rows, turning-call-rows, Reckons, released};
+ghost use Rattle.plan.specs.Calls.{lengths, report_call_rows, hold_call_rows, release_call_rows, turning_call_rows, Reckons, released};
 
 use crate::admits::{admit_hold, admit_release, admit_report, admit_turning};
 use crate::changes::{replace_run, replace_setting};
@@ -58,7 +58,7 @@ impl Open {
         event: u16,
         at: K,
     ) -> Result<(), PlanFault>
-        ensures reckons { Reckons K.Kind.time (report-call-rows K.Kind.time (lengths (length times.old) (length ring.old) (length counts.old) (length sums.old) (length befores.old) (length floors.old) (length arcs.old) (length tables.old) (length marks.old)) (open-memory self.now tracks.now runs.old connections.now settings.now) times.old event at) (register_of K.Kind.time (report-memory K.Kind.time (open-memory self.now tracks.now runs.old connections.now settings.now) event at)) times.old times.new ring.old ring.new result }
+        ensures reckons { Reckons K.Kind.time (report_call_rows K.Kind.time (lengths (length times.old) (length ring.old) (length counts.old) (length sums.old) (length befores.old) (length floors.old) (length arcs.old) (length tables.old) (length marks.old)) (open_memory self.now tracks.now runs.old connections.now settings.now) times.old event at) (register_of K.Kind.time (report_memory K.Kind.time (open_memory self.now tracks.now runs.old connections.now settings.now) event at)) times.old times.new ring.old ring.new result }
         ensures runs { MatchResult result (λ _. runs.new ≡ slice_set runs.old (event / 2) (reported (run_at K.Kind.time runs.old (event / 2)) (event % 2) at)) (λ _. runs.new ≡ runs.old) }
     {
         admit_report(
@@ -121,8 +121,8 @@ impl Open {
         switch: Switch,
         setting: u8,
     ) -> Result<(), PlanFault>
-        ensures reckons { Reckons K.Kind.time (turning-call-rows K.Kind.time (lengths (length times.old) (length ring.old) (length counts.old) (length sums.old) (length befores.old) (length floors.old) (length arcs.old) (length tables.old) (length marks.old)) (open-memory self.now tracks.now runs.now connections.now settings.old) times.old switch setting) (register_of K.Kind.time (switch-memory K.Kind.time (open-memory self.now tracks.now runs.now connections.now settings.old) switch setting)) times.old times.new ring.old ring.new result }
-        ensures settings { MatchResult result (λ _. settings.new ≡ slice_set settings.old (setting-place K.Kind.time (register_of K.Kind.time (open-memory self.now tracks.now runs.now connections.now settings.old)) switch) setting) (λ _. settings.new ≡ settings.old) }
+        ensures reckons { Reckons K.Kind.time (turning_call_rows K.Kind.time (lengths (length times.old) (length ring.old) (length counts.old) (length sums.old) (length befores.old) (length floors.old) (length arcs.old) (length tables.old) (length marks.old)) (open_memory self.now tracks.now runs.now connections.now settings.old) times.old switch setting) (register_of K.Kind.time (switch_memory K.Kind.time (open_memory self.now tracks.now runs.now connections.now settings.old) switch setting)) times.old times.new ring.old ring.new result }
+        ensures settings { MatchResult result (λ _. settings.new ≡ slice_set settings.old (setting_place K.Kind.time (register_of K.Kind.time (open_memory self.now tracks.now runs.now connections.now settings.old)) switch) setting) (λ _. settings.new ≡ settings.old) }
     {
         let place = admit_turning(
             self,
@@ -184,8 +184,8 @@ impl Open {
         j: u16,
         setting: u8,
     ) -> Result<(), PlanFault>
-        ensures reckons { Reckons K.Kind.time (turning-call-rows K.Kind.time (lengths (length times.old) (length ring.old) (length counts.old) (length sums.old) (length befores.old) (length floors.old) (length arcs.old) (length tables.old) (length marks.old)) (open-memory self.now tracks.now runs.now connections.now settings.old) times.old (named.Order i j) setting) (register_of K.Kind.time (switch-memory K.Kind.time (open-memory self.now tracks.now runs.now connections.now settings.old) (named.Order i j) setting)) times.old times.new ring.old ring.new result }
-        ensures settings { MatchResult result (λ _. settings.new ≡ slice_set settings.old (setting-place K.Kind.time (register_of K.Kind.time (open-memory self.now tracks.now runs.now connections.now settings.old)) (named.Order i j)) setting) (λ _. settings.new ≡ settings.old) }
+        ensures reckons { Reckons K.Kind.time (turning_call_rows K.Kind.time (lengths (length times.old) (length ring.old) (length counts.old) (length sums.old) (length befores.old) (length floors.old) (length arcs.old) (length tables.old) (length marks.old)) (open_memory self.now tracks.now runs.now connections.now settings.old) times.old (named.Order i j) setting) (register_of K.Kind.time (switch_memory K.Kind.time (open_memory self.now tracks.now runs.now connections.now settings.old) (named.Order i j) setting)) times.old times.new ring.old ring.new result }
+        ensures settings { MatchResult result (λ _. settings.new ≡ slice_set settings.old (setting_place K.Kind.time (register_of K.Kind.time (open_memory self.now tracks.now runs.now connections.now settings.old)) (named.Order i j)) setting) (λ _. settings.new ≡ settings.old) }
     {
         self.turn(
             tracks,
@@ -225,8 +225,8 @@ impl Open {
         c: u16,
         setting: u8,
     ) -> Result<(), PlanFault>
-        ensures reckons { Reckons K.Kind.time (turning-call-rows K.Kind.time (lengths (length times.old) (length ring.old) (length counts.old) (length sums.old) (length befores.old) (length floors.old) (length arcs.old) (length tables.old) (length marks.old)) (open-memory self.now tracks.now runs.now connections.now settings.old) times.old (named.Connection c) setting) (register_of K.Kind.time (switch-memory K.Kind.time (open-memory self.now tracks.now runs.now connections.now settings.old) (named.Connection c) setting)) times.old times.new ring.old ring.new result }
-        ensures settings { MatchResult result (λ _. settings.new ≡ slice_set settings.old (setting-place K.Kind.time (register_of K.Kind.time (open-memory self.now tracks.now runs.now connections.now settings.old)) (named.Connection c)) setting) (λ _. settings.new ≡ settings.old) }
+        ensures reckons { Reckons K.Kind.time (turning_call_rows K.Kind.time (lengths (length times.old) (length ring.old) (length counts.old) (length sums.old) (length befores.old) (length floors.old) (length arcs.old) (length tables.old) (length marks.old)) (open_memory self.now tracks.now runs.now connections.now settings.old) times.old (named.Connection c) setting) (register_of K.Kind.time (switch_memory K.Kind.time (open_memory self.now tracks.now runs.now connections.now settings.old) (named.Connection c) setting)) times.old times.new ring.old ring.new result }
+        ensures settings { MatchResult result (λ _. settings.new ≡ slice_set settings.old (setting_place K.Kind.time (register_of K.Kind.time (open_memory self.now tracks.now runs.now connections.now settings.old)) (named.Connection c)) setting) (λ _. settings.new ≡ settings.old) }
     {
         self.turn(
             tracks,
@@ -266,7 +266,7 @@ impl Open {
         run: u16,
         until: K,
     ) -> Result<Slip, PlanFault>
-        ensures reckons { Reckons K.Kind.time (hold-call-rows K.Kind.time (lengths (length times.old) (length ring.old) (length counts.old) (length sums.old) (length befores.old) (length floors.old) (length arcs.old) (length tables.old) (length marks.old)) (open-memory self.now tracks.now runs.old connections.now settings.now) times.old run until) (register_of K.Kind.time (hold-memory K.Kind.time (open-memory self.now tracks.now runs.old connections.now settings.now) run (Some until))) times.old times.new ring.old ring.new result }
+        ensures reckons { Reckons K.Kind.time (hold_call_rows K.Kind.time (lengths (length times.old) (length ring.old) (length counts.old) (length sums.old) (length befores.old) (length floors.old) (length arcs.old) (length tables.old) (length marks.old)) (open_memory self.now tracks.now runs.old connections.now settings.now) times.old run until) (register_of K.Kind.time (hold_memory K.Kind.time (open_memory self.now tracks.now runs.old connections.now settings.now) run (Some until))) times.old times.new ring.old ring.new result }
         ensures runs { MatchResult result (λ _. runs.new ≡ slice_set runs.old run (holding (run_at K.Kind.time runs.old run) (Some until))) (λ _. runs.new ≡ runs.old) }
         ensures slip { IfOk result (λ s. (s.plan ≡ self.now.number) × (s.run ≡ run)) }
     {
@@ -333,7 +333,7 @@ impl Open {
         slip_plan: u32,
         slip_run: u16,
     ) -> Result<(), PlanFault>
-        ensures reckons { Reckons K.Kind.time (release-call-rows K.Kind.time (lengths (length times.old) (length ring.old) (length counts.old) (length sums.old) (length befores.old) (length floors.old) (length arcs.old) (length tables.old) (length marks.old)) (open-memory self.now tracks.now runs.old connections.now settings.now) times.old self.now.number slip_plan slip_run) (register_of K.Kind.time (hold-memory K.Kind.time (open-memory self.now tracks.now runs.old connections.now settings.now) slip_run None)) times.old times.new ring.old ring.new result }
+        ensures reckons { Reckons K.Kind.time (release_call_rows K.Kind.time (lengths (length times.old) (length ring.old) (length counts.old) (length sums.old) (length befores.old) (length floors.old) (length arcs.old) (length tables.old) (length marks.old)) (open_memory self.now tracks.now runs.old connections.now settings.now) times.old self.now.number slip_plan slip_run) (register_of K.Kind.time (hold_memory K.Kind.time (open_memory self.now tracks.now runs.old connections.now settings.now) slip_run None)) times.old times.new ring.old ring.new result }
         ensures runs { MatchResult result (λ _. runs.new ≡ slice_set runs.old slip_run (holding (run_at K.Kind.time runs.old slip_run) None)) (λ _. runs.new ≡ runs.old) }
     {
         admit_release(
@@ -395,7 +395,7 @@ impl Open {
         marks: &mut [u16],
         slip: Slip,
     ) -> Result<(), Unreleased>
-        ensures reckons { Reckons K.Kind.time (release-call-rows K.Kind.time (lengths (length times.old) (length ring.old) (length counts.old) (length sums.old) (length befores.old) (length floors.old) (length arcs.old) (length tables.old) (length marks.old)) (open-memory self.now tracks.now runs.old connections.now settings.now) times.old self.now.number slip.plan slip.run) (register_of K.Kind.time (hold-memory K.Kind.time (open-memory self.now tracks.now runs.old connections.now settings.now) slip.run None)) times.old times.new ring.old ring.new (released result) }
+        ensures reckons { Reckons K.Kind.time (release_call_rows K.Kind.time (lengths (length times.old) (length ring.old) (length counts.old) (length sums.old) (length befores.old) (length floors.old) (length arcs.old) (length tables.old) (length marks.old)) (open_memory self.now tracks.now runs.old connections.now settings.now) times.old self.now.number slip.plan slip.run) (register_of K.Kind.time (hold_memory K.Kind.time (open_memory self.now tracks.now runs.old connections.now settings.now) slip.run None)) times.old times.new ring.old ring.new (released result) }
         ensures runs { MatchResult result (λ _. runs.new ≡ slice_set runs.old slip.run (holding (run_at K.Kind.time runs.old slip.run) None)) (λ _. runs.new ≡ runs.old) }
         ensures slip { IfErr result (λ u. u.slip ≡ slip) }
     {

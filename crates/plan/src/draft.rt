@@ -1,14 +1,14 @@
 //! The calls on a draft.
 ghost use Rattle.std.specs.Prelude.{◌≡◌, ℕ, ◌+◌, ◌<◌, ◌≤◌, length, IfOk, MatchResult, slice_set};
 ghost use Rattle.network.specs.Refusals.{Answers};
-ghost use Rattle.records.specs.Records.{track-of};
+ghost use Rattle.records.specs.Records.{track_of_lem};
 ghost use Rattle.records.specs.Places.{total};
 ghost use Rattle.records.specs.Register.{register_of};
 ghost use Rattle.rules.specs.Faults.{plan_number, plan_place};
-ghost use Rattle.rules.specs.Rows.{setting-place, setting-of};
-ghost use Rattle.plan.specs.States.{draft-memory};
+ghost use Rattle.rules.specs.Rows.{setting_place, setting_of_lem};
+ghost use Rattle.plan.specs.States.{draft_memory};
 ghost use Rattle.plan.specs.Steps.{unused};
-ghost use Rattle.plan.specs.Drafting.{track-call-rows, run-call-rows, connection-call-rows, preset-call-rows, setting-call-rows, blank, cleared, TrackEntered, RunEntered, ConnectionEntered};
+ghost use Rattle.plan.specs.Drafting.{track_call_rows, run_call_rows, connection_call_rows, preset_call_rows, setting_call_rows, blank, cleared, TrackEntered, RunEntered, ConnectionEntered};
 
 use crate::Draft;
 use crate::drafting::{
@@ -60,8 +60,8 @@ fn put_unused<K: Kind>(runs: &mut [Run<K>], i: usize, run: Run<K>)
 fn orders_below<K: Kind>(runs: &[Run<K>], n: usize) -> usize
     requires inside { n ≤ length runs.now }
     requires few { n ≤ 512 }
-    requires tracks { (k : ℕ) → k < n → track-of K.Kind.time runs.now k < 64 }
-    ensures { result ≡ total (track-of K.Kind.time runs.now) n }
+    requires tracks { (k : ℕ) → k < n → track_of_lem K.Kind.time runs.now k < 64 }
+    ensures { result ≡ total (track_of_lem K.Kind.time runs.now) n }
 {
     let (front, _) = runs.split_at(n);
     count_orders(front) as usize
@@ -84,7 +84,7 @@ impl Draft {
         settings: &[u8],
         track: Track<K>,
     ) -> Result<u16, PlanFault>
-        ensures rows { Answers plan_number plan_place (track-call-rows K.Kind.time (draft-memory self.old tracks.old runs.now connections.now settings.now) track) result }
+        ensures rows { Answers plan_number plan_place (track_call_rows K.Kind.time (draft_memory self.old tracks.old runs.now connections.now settings.now) track) result }
         ensures writes { MatchResult result (TrackEntered self.old self.new tracks.old tracks.new track) (λ _. (tracks.new ≡ tracks.old) × (self.new ≡ self.old)) }
     {
         admit_track(self, tracks, runs, connections, settings, track)?;
@@ -103,7 +103,7 @@ impl Draft {
         settings: &mut [u8],
         run: Run<K>,
     ) -> Result<u16, PlanFault>
-        ensures rows { Answers plan_number plan_place (run-call-rows K.Kind.time (draft-memory self.old tracks.now runs.old connections.now settings.old) run) result }
+        ensures rows { Answers plan_number plan_place (run_call_rows K.Kind.time (draft_memory self.old tracks.now runs.old connections.now settings.old) run) result }
         ensures writes { MatchResult result (RunEntered K.Kind.time self.old self.new runs.old runs.new settings.old settings.new run) (λ _. (runs.new ≡ runs.old) × ((settings.new ≡ settings.old) × (self.new ≡ self.old))) }
     {
         admit_run(self, tracks, runs, connections, settings, run)?;
@@ -125,7 +125,7 @@ impl Draft {
         settings: &mut [u8],
         connection: Connection<K>,
     ) -> Result<u16, PlanFault>
-        ensures rows { Answers plan_number plan_place (connection-call-rows K.Kind.time (draft-memory self.old tracks.now runs.now connections.old settings.old) connection) result }
+        ensures rows { Answers plan_number plan_place (connection_call_rows K.Kind.time (draft_memory self.old tracks.now runs.now connections.old settings.old) connection) result }
         ensures writes { MatchResult result (ConnectionEntered self.old self.new connections.old connections.new settings.old settings.new connection) (λ _. (connections.new ≡ connections.old) × ((settings.new ≡ settings.old) × (self.new ≡ self.old))) }
     {
         admit_connection(self, tracks, runs, connections, settings, connection)?;
@@ -146,8 +146,8 @@ impl Draft {
         switch: Switch,
         setting: u8,
     ) -> Result<(), PlanFault>
-        ensures rows { Answers plan_number plan_place (preset-call-rows K.Kind.time (draft-memory self.now tracks.now runs.now connections.now settings.old) switch setting) result }
-        ensures writes { MatchResult result (λ _. settings.new ≡ slice_set settings.old (setting-place K.Kind.time (register_of K.Kind.time (draft-memory self.now tracks.now runs.now connections.now settings.old)) switch) setting) (λ _. settings.new ≡ settings.old) }
+        ensures rows { Answers plan_number plan_place (preset_call_rows K.Kind.time (draft_memory self.now tracks.now runs.now connections.now settings.old) switch setting) result }
+        ensures writes { MatchResult result (λ _. settings.new ≡ slice_set settings.old (setting_place K.Kind.time (register_of K.Kind.time (draft_memory self.now tracks.now runs.now connections.now settings.old)) switch) setting) (λ _. settings.new ≡ settings.old) }
     {
         admit_preset(self, tracks, runs, connections, settings, switch, setting)?;
         let v = entered(draft_view(self, tracks, runs, connections, settings));
@@ -165,8 +165,8 @@ impl Draft {
         settings: &[u8],
         switch: Switch,
     ) -> Result<u8, PlanFault>
-        ensures rows { Answers plan_number plan_place (setting-call-rows K.Kind.time (draft-memory self.now tracks.now runs.now connections.now settings.now) switch) result }
-        ensures reads { IfOk result (λ s. s ≡ setting-of K.Kind.time (register_of K.Kind.time (draft-memory self.now tracks.now runs.now connections.now settings.now)) switch) }
+        ensures rows { Answers plan_number plan_place (setting_call_rows K.Kind.time (draft_memory self.now tracks.now runs.now connections.now settings.now) switch) result }
+        ensures reads { IfOk result (λ s. s ≡ setting_of_lem K.Kind.time (register_of K.Kind.time (draft_memory self.now tracks.now runs.now connections.now settings.now)) switch) }
     {
         admit_switch(self, tracks, runs, connections, settings, switch)?;
         let v = entered(draft_view(self, tracks, runs, connections, settings));

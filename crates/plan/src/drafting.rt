@@ -3,9 +3,9 @@ ghost use Rattle.std.specs.Prelude.{◌≡◌, ◌<◌, ◌≤◌, OnOk};
 ghost use Rattle.network.specs.Refusals.{Answers, Passed};
 ghost use Rattle.records.specs.Register.{seen, register_of};
 ghost use Rattle.rules.specs.Faults.{plan_number, plan_place};
-ghost use Rattle.rules.specs.Rows.{SoundDraft, orders-with, switch-rows};
-ghost use Rattle.plan.specs.States.{draft-memory};
-ghost use Rattle.plan.specs.Drafting.{track-call-rows, run-call-rows, connection-call-rows, preset-call-rows, setting-call-rows};
+ghost use Rattle.rules.specs.Rows.{SoundDraft, orders_with, switch_rows};
+ghost use Rattle.plan.specs.States.{draft_memory};
+ghost use Rattle.plan.specs.Drafting.{track_call_rows, run_call_rows, connection_call_rows, preset_call_rows, setting_call_rows};
 
 use crate::Draft;
 use kinds::Kind;
@@ -23,7 +23,7 @@ pub(crate) fn draft_view<'t, 'r, 'c, 's, K: Kind>(
     connections: &'c [Connection<K>],
     settings: &'s [u8],
 ) -> View<'t, 'r, 'c, 's, K>
-    ensures { seen result ≡ draft-memory draft.now tracks.now runs.now connections.now settings.now }
+    ensures { seen result ≡ draft_memory draft.now tracks.now runs.now connections.now settings.now }
 {
     View {
         tracks,
@@ -45,8 +45,8 @@ pub(crate) fn admit_track<K: Kind>(
     settings: &[u8],
     track: Track<K>,
 ) -> Result<(), PlanFault>
-    ensures rows { Answers plan_number plan_place (track-call-rows K.Kind.time (draft-memory draft.now tracks.now runs.now connections.now settings.now) track) result }
-    ensures room { OnOk result (SoundDraft K.Kind.time (draft-memory draft.now tracks.now runs.now connections.now settings.now) × (draft.now.tracks < 64)) }
+    ensures rows { Answers plan_number plan_place (track_call_rows K.Kind.time (draft_memory draft.now tracks.now runs.now connections.now settings.now) track) result }
+    ensures room { OnOk result (SoundDraft K.Kind.time (draft_memory draft.now tracks.now runs.now connections.now settings.now) × (draft.now.tracks < 64)) }
 {
     let v = draft_view(draft, tracks, runs, connections, settings);
     check_draft(v)?;
@@ -62,8 +62,8 @@ pub(crate) fn admit_run<K: Kind>(
     settings: &[u8],
     run: Run<K>,
 ) -> Result<(), PlanFault>
-    ensures rows { Answers plan_number plan_place (run-call-rows K.Kind.time (draft-memory draft.now tracks.now runs.now connections.now settings.now) run) result }
-    ensures room { OnOk result (SoundDraft K.Kind.time (draft-memory draft.now tracks.now runs.now connections.now settings.now) × ((draft.now.runs < 512) × ((run.track < 64) × (orders-with K.Kind.time (register_of K.Kind.time (draft-memory draft.now tracks.now runs.now connections.now settings.now)) run.track ≤ 4096)))) }
+    ensures rows { Answers plan_number plan_place (run_call_rows K.Kind.time (draft_memory draft.now tracks.now runs.now connections.now settings.now) run) result }
+    ensures room { OnOk result (SoundDraft K.Kind.time (draft_memory draft.now tracks.now runs.now connections.now settings.now) × ((draft.now.runs < 512) × ((run.track < 64) × (orders_with K.Kind.time (register_of K.Kind.time (draft_memory draft.now tracks.now runs.now connections.now settings.now)) run.track ≤ 4096)))) }
 {
     let v = draft_view(draft, tracks, runs, connections, settings);
     check_draft(v)?;
@@ -79,8 +79,8 @@ pub(crate) fn admit_connection<K: Kind>(
     settings: &[u8],
     connection: Connection<K>,
 ) -> Result<(), PlanFault>
-    ensures rows { Answers plan_number plan_place (connection-call-rows K.Kind.time (draft-memory draft.now tracks.now runs.now connections.now settings.now) connection) result }
-    ensures room { OnOk result (SoundDraft K.Kind.time (draft-memory draft.now tracks.now runs.now connections.now settings.now) × (draft.now.connections < 512)) }
+    ensures rows { Answers plan_number plan_place (connection_call_rows K.Kind.time (draft_memory draft.now tracks.now runs.now connections.now settings.now) connection) result }
+    ensures room { OnOk result (SoundDraft K.Kind.time (draft_memory draft.now tracks.now runs.now connections.now settings.now) × (draft.now.connections < 512)) }
 {
     let v = draft_view(draft, tracks, runs, connections, settings);
     check_draft(v)?;
@@ -97,8 +97,8 @@ pub(crate) fn admit_preset<K: Kind>(
     switch: Switch,
     setting: u8,
 ) -> Result<(), PlanFault>
-    ensures rows { Answers plan_number plan_place (preset-call-rows K.Kind.time (draft-memory draft.now tracks.now runs.now connections.now settings.now) switch setting) result }
-    ensures known { OnOk result (SoundDraft K.Kind.time (draft-memory draft.now tracks.now runs.now connections.now settings.now) × Passed (switch-rows K.Kind.time (register_of K.Kind.time (draft-memory draft.now tracks.now runs.now connections.now settings.now)) switch)) }
+    ensures rows { Answers plan_number plan_place (preset_call_rows K.Kind.time (draft_memory draft.now tracks.now runs.now connections.now settings.now) switch setting) result }
+    ensures known { OnOk result (SoundDraft K.Kind.time (draft_memory draft.now tracks.now runs.now connections.now settings.now) × Passed (switch_rows K.Kind.time (register_of K.Kind.time (draft_memory draft.now tracks.now runs.now connections.now settings.now)) switch)) }
 {
     let v = draft_view(draft, tracks, runs, connections, settings);
     check_draft(v)?;
@@ -114,8 +114,8 @@ pub(crate) fn admit_switch<K: Kind>(
     settings: &[u8],
     switch: Switch,
 ) -> Result<(), PlanFault>
-    ensures rows { Answers plan_number plan_place (setting-call-rows K.Kind.time (draft-memory draft.now tracks.now runs.now connections.now settings.now) switch) result }
-    ensures known { OnOk result (SoundDraft K.Kind.time (draft-memory draft.now tracks.now runs.now connections.now settings.now) × Passed (switch-rows K.Kind.time (register_of K.Kind.time (draft-memory draft.now tracks.now runs.now connections.now settings.now)) switch)) }
+    ensures rows { Answers plan_number plan_place (setting_call_rows K.Kind.time (draft_memory draft.now tracks.now runs.now connections.now settings.now) switch) result }
+    ensures known { OnOk result (SoundDraft K.Kind.time (draft_memory draft.now tracks.now runs.now connections.now settings.now) × Passed (switch_rows K.Kind.time (register_of K.Kind.time (draft_memory draft.now tracks.now runs.now connections.now settings.now)) switch)) }
 {
     let v = draft_view(draft, tracks, runs, connections, settings);
     check_draft(v)?;

@@ -1,8 +1,8 @@
 //! Opening a draft.
 ghost use Rattle.std.specs.Prelude.{◌≡◌, ℕ, ◌++◌, length, MatchResult};
 ghost use Rattle.records.specs.Register.{register_of};
-ghost use Rattle.rules.specs.Rows.{draft-rows};
-ghost use Rattle.plan.specs.States.{draft-memory};
+ghost use Rattle.rules.specs.Rows.{draft_rows};
+ghost use Rattle.plan.specs.States.{draft_memory};
 ghost use Rattle.plan.specs.Calls.{lengths, opening_rows, Reckons, opened};
 
 use crate::admits::check_work;
@@ -31,7 +31,7 @@ fn start<K: Kind>(
     tables: &mut [K],
     marks: &mut [u16],
 ) -> Result<(), PlanFault>
-    ensures { Reckons K.Kind.time (opening_rows K.Kind.time (lengths (length times.old) (length ring.old) (length counts.old) (length sums.old) (length befores.old) (length floors.old) (length arcs.old) (length tables.old) (length marks.old)) (draft-memory draft.now tracks.now runs.now connections.now settings.now)) (register_of K.Kind.time (draft-memory draft.now tracks.now runs.now connections.now settings.now)) times.old times.new ring.old ring.new result }
+    ensures { Reckons K.Kind.time (opening_rows K.Kind.time (lengths (length times.old) (length ring.old) (length counts.old) (length sums.old) (length befores.old) (length floors.old) (length arcs.old) (length tables.old) (length marks.old)) (draft_memory draft.now tracks.now runs.now connections.now settings.now)) (register_of K.Kind.time (draft_memory draft.now tracks.now runs.now connections.now settings.now)) times.old times.new ring.old ring.new result }
 {
     check_work(
         times.len(),
@@ -70,7 +70,7 @@ impl Draft {
         tables: &mut [K],
         marks: &mut [u16],
     ) -> Result<Open, Unopened>
-        ensures reckons { Reckons K.Kind.time (opening_rows K.Kind.time (lengths (length times.old) (length ring.old) (length counts.old) (length sums.old) (length befores.old) (length floors.old) (length arcs.old) (length tables.old) (length marks.old)) (draft-memory self tracks.now runs.now connections.now settings.now)) (register_of K.Kind.time (draft-memory self tracks.now runs.now connections.now settings.now)) times.old times.new ring.old ring.new (opened result) }
+        ensures reckons { Reckons K.Kind.time (opening_rows K.Kind.time (lengths (length times.old) (length ring.old) (length counts.old) (length sums.old) (length befores.old) (length floors.old) (length arcs.old) (length tables.old) (length marks.old)) (draft_memory self tracks.now runs.now connections.now settings.now)) (register_of K.Kind.time (draft_memory self tracks.now runs.now connections.now settings.now)) times.old times.new ring.old ring.new (opened result) }
         ensures plan { MatchResult result (λ o. (o.number ≡ self.number) × (o.tracks ≡ self.tracks) × (o.runs ≡ self.runs) × (o.connections ≡ self.connections)) (λ u. u.draft ≡ self) }
     {
         match start(

@@ -4,9 +4,9 @@ ghost use Rattle.network.specs.Reckoning.{at as time-at};
 ghost use Rattle.network.specs.Refusals.{Answers};
 ghost use Rattle.records.specs.Register.{register_of};
 ghost use Rattle.rules.specs.Faults.{plan_number, plan_place};
-ghost use Rattle.rules.specs.Rows.{open-rows, event-rows, switch-rows, setting-of};
-ghost use Rattle.cost.specs.Cost.{delay-cost};
-ghost use Rattle.plan.specs.States.{open-memory};
+ghost use Rattle.rules.specs.Rows.{open_rows, event_rows, switch_rows, setting_of_lem};
+ghost use Rattle.cost.specs.Cost.{delay_cost_lem};
+ghost use Rattle.plan.specs.States.{open_memory};
 
 use crate::Open;
 use crate::changes::open_view;
@@ -26,7 +26,7 @@ impl Open {
         times: &[K],
         event: u16,
     ) -> Result<K, PlanFault>
-        ensures rows { Answers plan_number plan_place (open-rows K.Kind.time (open-memory self.now tracks.now runs.now connections.now settings.now) times.now ++ event-rows K.Kind.time (register_of K.Kind.time (open-memory self.now tracks.now runs.now connections.now settings.now)) event) result }
+        ensures rows { Answers plan_number plan_place (open_rows K.Kind.time (open_memory self.now tracks.now runs.now connections.now settings.now) times.now ++ event_rows K.Kind.time (register_of K.Kind.time (open_memory self.now tracks.now runs.now connections.now settings.now)) event) result }
         ensures value { IfOk result (λ x. x ≡ time-at K.Kind.time times.now event) }
     {
         let v = open_view(self, tracks, runs, connections, settings);
@@ -45,8 +45,8 @@ impl Open {
         times: &[K],
         switch: Switch,
     ) -> Result<u8, PlanFault>
-        ensures rows { Answers plan_number plan_place (open-rows K.Kind.time (open-memory self.now tracks.now runs.now connections.now settings.now) times.now ++ switch-rows K.Kind.time (register_of K.Kind.time (open-memory self.now tracks.now runs.now connections.now settings.now)) switch) result }
-        ensures value { IfOk result (λ x. x ≡ setting-of K.Kind.time (register_of K.Kind.time (open-memory self.now tracks.now runs.now connections.now settings.now)) switch) }
+        ensures rows { Answers plan_number plan_place (open_rows K.Kind.time (open_memory self.now tracks.now runs.now connections.now settings.now) times.now ++ switch_rows K.Kind.time (register_of K.Kind.time (open_memory self.now tracks.now runs.now connections.now settings.now)) switch) result }
+        ensures value { IfOk result (λ x. x ≡ setting_of_lem K.Kind.time (register_of K.Kind.time (open_memory self.now tracks.now runs.now connections.now settings.now)) switch) }
     {
         let v = open_view(self, tracks, runs, connections, settings);
         check_open(v, times)?;
@@ -64,8 +64,8 @@ impl Open {
         settings: &[u8],
         times: &[K],
     ) -> Result<u64, PlanFault>
-        ensures rows { Answers plan_number plan_place (open-rows K.Kind.time (open-memory self.now tracks.now runs.now connections.now settings.now) times.now) result }
-        ensures value { IfOk result (λ n. n ≡ delay-cost K.Kind.time (register_of K.Kind.time (open-memory self.now tracks.now runs.now connections.now settings.now)) (time-at K.Kind.time times.now)) }
+        ensures rows { Answers plan_number plan_place (open_rows K.Kind.time (open_memory self.now tracks.now runs.now connections.now settings.now) times.now) result }
+        ensures value { IfOk result (λ n. n ≡ delay_cost_lem K.Kind.time (register_of K.Kind.time (open_memory self.now tracks.now runs.now connections.now settings.now)) (time-at K.Kind.time times.now)) }
     {
         let v = open_view(self, tracks, runs, connections, settings);
         check_open(v, times)?;

@@ -5,10 +5,10 @@ ghost use Rattle.records.specs.Register.{register_of};
 ghost use Rattle.records.specs.Stored.{Stored};
 ghost use Rattle.rules.specs.Rows.{RecordsListed};
 ghost use Rattle.force.specs.Reckoned.{TimesAfter, RingAfter};
-ghost use Rattle.cost.specs.Cost.{delay-cost};
-ghost use Rattle.plan.specs.States.{open-memory};
-ghost use Rattle.plan.specs.Steps.{switch-memory};
-ghost use Rattle.plan.specs.Calls.{Listed, lengths, turning-call-rows, Reckons, done};
+ghost use Rattle.cost.specs.Cost.{delay_cost_lem};
+ghost use Rattle.plan.specs.States.{open_memory};
+ghost use Rattle.plan.specs.Steps.{switch_memory};
+ghost use Rattle.plan.specs.Calls.{Listed, lengths, turning_call_rows, Reckons, done};
 
 use crate::Open;
 use crate::admits::admit_turning;
@@ -69,12 +69,12 @@ fn try_setting<K: Kind>(
     setting: u8,
 ) -> Result<u64, NetworkFault>
     requires inside { place < length settings.old }
-    requires records { RecordsListed (open-memory plan.now tracks.now runs.now connections.now settings.old) }
+    requires records { RecordsListed (open_memory plan.now tracks.now runs.now connections.now settings.old) }
     requires listed { Listed (lengths (length trial.old) (length ring.old) (length counts.old) (length sums.old) (length befores.old) (length floors.old) (length arcs.old) (length tables.old) (length marks.old)) }
-    requires stored { Stored K.Kind.time (open-memory plan.now tracks.now runs.now connections.now (slice_set settings.old place setting)) }
-    ensures times { TimesAfter K.Kind.time (register_of K.Kind.time (open-memory plan.now tracks.now runs.now connections.now (slice_set settings.old place setting))) trial.old trial.new (done result) }
-    ensures ring { RingAfter K.Kind.time (register_of K.Kind.time (open-memory plan.now tracks.now runs.now connections.now (slice_set settings.old place setting))) ring.old ring.new (done result) }
-    ensures cost { IfOk result (λ n. n ≡ delay-cost K.Kind.time (register_of K.Kind.time (open-memory plan.now tracks.now runs.now connections.now (slice_set settings.old place setting))) (time-at K.Kind.time trial.new)) }
+    requires stored { Stored K.Kind.time (open_memory plan.now tracks.now runs.now connections.now (slice_set settings.old place setting)) }
+    ensures times { TimesAfter K.Kind.time (register_of K.Kind.time (open_memory plan.now tracks.now runs.now connections.now (slice_set settings.old place setting))) trial.old trial.new (done result) }
+    ensures ring { RingAfter K.Kind.time (register_of K.Kind.time (open_memory plan.now tracks.now runs.now connections.now (slice_set settings.old place setting))) ring.old ring.new (done result) }
+    ensures cost { IfOk result (λ n. n ≡ delay_cost_lem K.Kind.time (register_of K.Kind.time (open_memory plan.now tracks.now runs.now connections.now (slice_set settings.old place setting))) (time-at K.Kind.time trial.new)) }
     ensures settings { settings.new ≡ settings.old }
 {
     let old = settings[place];
@@ -127,8 +127,8 @@ impl Open {
         switch: Switch,
         setting: u8,
     ) -> Result<u64, PlanFault>
-        ensures reckons { Reckons K.Kind.time (turning-call-rows K.Kind.time (lengths (length trial.old) (length ring.old) (length counts.old) (length sums.old) (length befores.old) (length floors.old) (length arcs.old) (length tables.old) (length marks.old)) (open-memory self.now tracks.now runs.now connections.now settings.old) times.now switch setting) (register_of K.Kind.time (switch-memory K.Kind.time (open-memory self.now tracks.now runs.now connections.now settings.old) switch setting)) trial.old trial.new ring.old ring.new result }
-        ensures cost { IfOk result (λ n. n ≡ delay-cost K.Kind.time (register_of K.Kind.time (switch-memory K.Kind.time (open-memory self.now tracks.now runs.now connections.now settings.old) switch setting)) (time-at K.Kind.time trial.new)) }
+        ensures reckons { Reckons K.Kind.time (turning_call_rows K.Kind.time (lengths (length trial.old) (length ring.old) (length counts.old) (length sums.old) (length befores.old) (length floors.old) (length arcs.old) (length tables.old) (length marks.old)) (open_memory self.now tracks.now runs.now connections.now settings.old) times.now switch setting) (register_of K.Kind.time (switch_memory K.Kind.time (open_memory self.now tracks.now runs.now connections.now settings.old) switch setting)) trial.old trial.new ring.old ring.new result }
+        ensures cost { IfOk result (λ n. n ≡ delay_cost_lem K.Kind.time (register_of K.Kind.time (switch_memory K.Kind.time (open_memory self.now tracks.now runs.now connections.now settings.old) switch setting)) (time-at K.Kind.time trial.new)) }
         ensures settings { settings.new ≡ settings.old }
     {
         let place = admit_turning(

@@ -6,8 +6,8 @@ use Rattle.records.specs.declared.Track.{Track}
 use Rattle.records.specs.declared.Connection.{Connection}
 
 module _ {K : Type 0} (t : Time K) where
-  abbrev pub track-at : List (Track K) → ℕ → Track K
-  track-at tracks k = slice_index_or tracks k (record { headway = t.none; meeting = t.none; penalty = 0 })
+  abbrev pub track_at : List (Track K) → ℕ → Track K
+  track_at tracks k = slice_index_or tracks k (record { headway = t.none; meeting = t.none; penalty = 0 })
 
   abbrev pub run_at : List (Run K) → ℕ → Run K
   run_at runs k = get_or runs k (record {
@@ -25,13 +25,13 @@ module _ {K : Type 0} (t : Time K) where
     hold = None;
   })
 
-  abbrev pub connection-at : List (Connection K) → ℕ → Connection K
-  connection-at connections k = slice_index_or connections k (record { feeder = 0; onward = 0; penalty = 0; time = t.none })
+  abbrev pub connection_at : List (Connection K) → ℕ → Connection K
+  connection_at connections k = slice_index_or connections k (record { feeder = 0; onward = 0; penalty = 0; time = t.none })
 
   -- the number of the track of run k
-  abbrev pub track-of : List (Run K) → ℕ → ℕ
-  track-of runs k = (run_at runs k).track
+  abbrev pub track_of_lem : List (Run K) → ℕ → ℕ
+  track_of_lem runs k = (run_at runs k).track
 
   -- each run names one of 64 tracks
   abbrev pub OnTracks : List (Run K) → Type 0
-  OnTracks runs = (k : ℕ) → k < length runs → track-of runs k < 64
+  OnTracks runs = (k : ℕ) → k < length runs → track_of_lem runs k < 64

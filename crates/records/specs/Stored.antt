@@ -4,7 +4,7 @@ use Rattle.kinds.specs.Time.{Time}
 use Rattle.records.specs.declared.Run.{Run}
 use Rattle.records.specs.declared.Track.{Track}
 use Rattle.records.specs.declared.Connection.{Connection}
-use Rattle.records.specs.Records.{run_at, track-at, connection-at, track-of}
+use Rattle.records.specs.Records.{run_at, track_at, connection_at, track_of_lem}
 use Rattle.records.specs.Places.{total, Ordered}
 use Rattle.records.specs.Register.{Register, Memory, register_of}
 
@@ -54,24 +54,24 @@ module _ {K : Type 0} where
     ConnectionStored runs c = (c.feeder < runs) × ((c.onward < runs) × ((c.feeder ≢ c.onward) × ((c.penalty ≤ 1000000) × Duration c.time)))
 
     pub record TracksStored (tracks : List (Track K)) : Type 0 where
-      pub each : (k : ℕ) → k < length tracks → TrackStored (track-at t tracks k)
+      pub each : (k : ℕ) → k < length tracks → TrackStored (track_at t tracks k)
 
     pub record RunsStored (tracks : ℕ) (runs : List (Run K)) : Type 0 where
       pub each : (r : ℕ) → r < length runs → RunStored tracks r (run_at t runs r)
 
     pub record ConnectionsStored (runs : ℕ) (connections : List (Connection K)) : Type 0 where
-      pub each : (c : ℕ) → c < length connections → ConnectionStored runs (connection-at t connections c)
+      pub each : (c : ℕ) → c < length connections → ConnectionStored runs (connection_at t connections c)
 
     -- A register that keeps the limits: no record, number of records or setting is one that the calls refuse.
     pub record Limits (R : Register K) : Type 0 where
       pub few_tracks : length R.tracks ≤ 64
       pub few_runs : length R.runs ≤ 512
       pub few_connections : length R.connections ≤ 512
-      pub few_orders : total (track-of t R.runs) (length R.runs) ≤ 4096
+      pub few_orders : total (track_of_lem t R.runs) (length R.runs) ≤ 4096
       pub tracks : TracksStored R.tracks
       pub runs : RunsStored (length R.tracks) R.runs
       pub connections : ConnectionsStored (length R.runs) R.connections
-      pub orders : (i j : ℕ) → Ordered (track-of t R.runs) (length R.runs) i j → R.order i j ≤ 1
+      pub orders : (i j : ℕ) → Ordered (track_of_lem t R.runs) (length R.runs) i j → R.order i j ≤ 1
       pub links : (c : ℕ) → c < length R.connections → R.link c ≤ 1
 
     -- The counts of a memory are within its limits, and so is the register that it stands for.

@@ -3,7 +3,7 @@
 #![tactic(auto)]
 
 ghost use Rattle.std.specs.Prelude.{◌≡◌, ℕ, ◌<◌, ◌≤◌, length};
-ghost use Rattle.records.specs.Records.{run_at, track-at, connection-at};
+ghost use Rattle.records.specs.Records.{run_at, track_at, connection_at};
 ghost use Rattle.records.specs.Register.{seen, front};
 
 use kinds::Kind;
@@ -64,7 +64,7 @@ pub struct View<'t, 'r, 'c, 's, K> {
 /// The track at place `i`.
 pub fn track_of<K: Kind>(tracks: &[Track<K>], i: usize) -> Track<K>
     requires { i < length tracks.now }
-    ensures { result ≡ track-at K.Kind.time tracks.now i }
+    ensures { result ≡ track_at K.Kind.time tracks.now i }
 {
     tracks[i]
 }
@@ -80,7 +80,7 @@ pub fn run_of<K: Kind>(runs: &[Run<K>], i: usize) -> Run<K>
 /// The connection at place `i`.
 pub fn connection_of<K: Kind>(connections: &[Connection<K>], i: usize) -> Connection<K>
     requires { i < length connections.now }
-    ensures { result ≡ connection-at K.Kind.time connections.now i }
+    ensures { result ≡ connection_at K.Kind.time connections.now i }
 {
     connections[i]
 }

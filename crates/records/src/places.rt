@@ -1,7 +1,7 @@
 //! Where the setting of each order lies.
 ghost use Rattle.std.specs.Prelude.{◌≡◌, ℕ, ◌+◌, ◌<◌, ◌≤◌, length};
 ghost use Rattle.records.specs.Places.{total, Laid};
-ghost use Rattle.records.specs.Records.{track-of, OnTracks};
+ghost use Rattle.records.specs.Records.{track_of_lem, OnTracks};
 
 use crate::{Run, run_of};
 use kinds::Kind;
@@ -18,8 +18,8 @@ pub fn lay_out<K: Kind>(
     requires few { length runs.now ≤ 512 }
     requires room { (length runs.now ≤ length counts.old) × ((length runs.now ≤ length sums.old) × (length runs.now ≤ length befores.old)) }
     requires tracks { OnTracks K.Kind.time runs.now }
-    ensures laid { Laid (track-of K.Kind.time runs.now) (length runs.now) counts.new sums.new befores.new }
-    ensures orders { result ≡ total (track-of K.Kind.time runs.now) (length runs.now) }
+    ensures laid { Laid (track_of_lem K.Kind.time runs.now) (length runs.now) counts.new sums.new befores.new }
+    ensures orders { result ≡ total (track_of_lem K.Kind.time runs.now) (length runs.now) }
 {
     let n = runs.len();
     let mut tally = [0u16; 64];
@@ -42,7 +42,7 @@ pub fn lay_out<K: Kind>(
 pub fn count_orders<K: Kind>(runs: &[Run<K>]) -> u32
     requires few { length runs.now ≤ 512 }
     requires tracks { OnTracks K.Kind.time runs.now }
-    ensures { result ≡ total (track-of K.Kind.time runs.now) (length runs.now) }
+    ensures { result ≡ total (track_of_lem K.Kind.time runs.now) (length runs.now) }
 {
     let n = runs.len();
     let mut tally = [0u16; 64];

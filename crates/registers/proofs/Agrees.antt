@@ -8,18 +8,18 @@ use Rattle.network.specs.Refusals.{Passed}
 use Rattle.records.specs.declared.Track.{Track}
 use Rattle.records.specs.declared.Run.{Run}
 use Rattle.records.specs.declared.Connection.{Connection}
-use Rattle.records.specs.Records.{track-of}
+use Rattle.records.specs.Records.{track_of_lem}
 use Rattle.records.specs.Places.{count, earlier, total, place, Ordered}
 use Rattle.records.specs.Register.{Memory, register_of}
 use Rattle.records.specs.Stored.{Stored}
 use Rattle.records.proofs.Counts.{count_below, place_below, place_kept, count_kept, total_kept, one_written}
 use Rattle.rules.specs.declared.switches.Switch.{Switch}
 use Rattle.rules.specs.declared.switches.Switch.TheVariants as switch
-use Rattle.rules.specs.Rows.{RecordsListed, orders-with, switch-rows}
+use Rattle.rules.specs.Rows.{RecordsListed, orders_with, switch_rows}
 use Rattle.rules.proofs.Rows.{order_passed, link_passed}
-use Rattle.plan.specs.Steps.{with-runs, unused, reported, holding, report-memory, hold-memory, switch-memory}
-use Rattle.registers.specs.Steps.{Same, empty, enter-track, enter-run, enter-connection, set-switch, with_run, report, hold}
-use Rattle.registers.specs.Memories.{track-memory, connection-memory, cleared, orders-entered, orders-added, run-memory, StepsOf}
+use Rattle.plan.specs.Steps.{with_runs, unused, reported, holding, report_memory, hold_memory, switch_memory}
+use Rattle.registers.specs.Steps.{Same, empty, enter_track, enter_run, enter_connection, set_switch, with_run, report, hold}
+use Rattle.registers.specs.Memories.{track_memory, connection_memory, cleared, orders_entered, orders_added, run_memory, StepsOf}
 use Rattle.registers.proofs.Kept.{track_before, ordered_before, track_still}
 
 -- reading among cleared bytes
@@ -55,7 +55,7 @@ module _ {K : Type 0} (t : Time K) (m : Memory K) where
       }
 
   -- another run on the same track
-  pub run_agrees : (r : ℕ) (x : Run K) → r < m.run_count → x.track ≡ track-of t (take m.run_count m.runs) r → Same t (register_of t (with-runs m (set m.runs r x))) (with_run (register_of t m) r x)
+  pub run_agrees : (r : ℕ) (x : Run K) → r < m.run_count → x.track ≡ track_of_lem t (take m.run_count m.runs) r → Same t (register_of t (with_runs m (set m.runs r x))) (with_run (register_of t m) r x)
   run_agrees r x inside e =
       let n = m.run_count in
       let made = take-set-lt n m.runs r x inside in
@@ -63,18 +63,18 @@ module _ {K : Type 0} (t : Time K) (m : Memory K) where
         tracks = refl;
         runs = made;
         connections = refl;
-        orders = λ i j o. ap (λ (p : ℕ). get_or m.settings p 0) (place_kept _ _ i j o.below (λ k l. ap (λ ys. track-of t ys k) made ∙ track_still t (take n m.runs) r x e k));
+        orders = λ i j o. ap (λ (p : ℕ). get_or m.settings p 0) (place_kept _ _ i j o.below (λ k l. ap (λ ys. track_of_lem t ys k) made ∙ track_still t (take n m.runs) r x e k));
         links = λ c l. refl;
       }
 
-  pub report_agrees : (v : ℕ) (at : K) → v / 2 < m.run_count → Same t (register_of t (report-memory t m v at)) (report t (register_of t m) v at)
+  pub report_agrees : (v : ℕ) (at : K) → v / 2 < m.run_count → Same t (register_of t (report_memory t m v at)) (report t (register_of t m) v at)
   report_agrees v at inside =
-      let P : Run K → Type 0 = λ y. Same t (register_of t (with-runs m (set m.runs (v / 2) (reported y (v % 2) at)))) (report t (register_of t m) v at) in
+      let P : Run K → Type 0 = λ y. Same t (register_of t (with_runs m (set m.runs (v / 2) (reported y (v % 2) at)))) (report t (register_of t m) v at) in
       subst P (get_or-take m.run_count m.runs (v / 2) _ inside) (run_agrees (v / 2) _ inside refl)
 
-  pub hold_agrees : (r : ℕ) (until : Option K) → r < m.run_count → Same t (register_of t (hold-memory t m r until)) (hold t (register_of t m) r until)
+  pub hold_agrees : (r : ℕ) (until : Option K) → r < m.run_count → Same t (register_of t (hold_memory t m r until)) (hold t (register_of t m) r until)
   hold_agrees r until inside =
-      let P : Run K → Type 0 = λ y. Same t (register_of t (with-runs m (set m.runs r (holding y until)))) (hold t (register_of t m) r until) in
+      let P : Run K → Type 0 = λ y. Same t (register_of t (with_runs m (set m.runs r (holding y until)))) (hold t (register_of t m) r until) in
       subst P (get_or-take m.run_count m.runs r _ inside) (run_agrees r _ inside refl)
 
   module _ (stored : Stored t m) (listed : RecordsListed m) where
@@ -85,16 +85,16 @@ module _ {K : Type 0} (t : Time K) (m : Memory K) where
     long_connections = length-take-le m.connection_count m.connections (omega (arith, stored.few_connections, listed.connections))
 
     -- what a run's rows count as orders
-    pub orders_counted : (x : ℕ) → orders-with t (register_of t m) x ≡ orders-entered t m + orders-added t m x
-    orders_counted x = ap (λ (n : ℕ). total (track-of t (take m.run_count m.runs)) n + count (track-of t (take m.run_count m.runs)) x n) long_runs
+    pub orders_counted : (x : ℕ) → orders_with t (register_of t m) x ≡ orders_entered t m + orders_added t m x
+    orders_counted x = ap (λ (n : ℕ). total (track_of_lem t (take m.run_count m.runs)) n + count (track_of_lem t (take m.run_count m.runs)) x n) long_runs
 
     -- the byte of an order lies before those of the connections
-    order_low : (i j : ℕ) → Ordered (track-of t (take m.run_count m.runs)) (length (take m.run_count m.runs)) i j → place (track-of t (take m.run_count m.runs)) i j < 4096
+    order_low : (i j : ℕ) → Ordered (track_of_lem t (take m.run_count m.runs)) (length (take m.run_count m.runs)) i j → place (track_of_lem t (take m.run_count m.runs)) i j < 4096
     order_low i j o = let h = place_below _ _ i j o in omega (arith, stored.limits.few_orders)
 
-    pub switch_agrees : (s : Switch) (setting : ℕ) → Passed (switch-rows t (register_of t m) s) → Same t (register_of t (switch-memory t m s setting)) (set-switch (register_of t m) s setting)
+    pub switch_agrees : (s : Switch) (setting : ℕ) → Passed (switch_rows t (register_of t m) s) → Same t (register_of t (switch_memory t m s setting)) (set_switch (register_of t m) s setting)
     switch_agrees (switch.Order i j) setting p =
-        let f : ℕ → ℕ = track-of t (take m.run_count m.runs) in
+        let f : ℕ → ℕ = track_of_lem t (take m.run_count m.runs) in
         let o : Ordered f (length (take m.run_count m.runs)) i j = order_passed t (register_of t m) i j p in
         let low = order_low i j o in
         record {
@@ -124,7 +124,7 @@ module _ {K : Type 0} (t : Time K) (m : Memory K) where
           ];
         }
 
-    pub track_agrees : (x : Track K) → m.track_count < 64 → Same t (register_of t (track-memory m x)) (enter-track (register_of t m) x)
+    pub track_agrees : (x : Track K) → m.track_count < 64 → Same t (register_of t (track_memory m x)) (enter_track (register_of t m) x)
     track_agrees x room = record {
       tracks = take_more_set m.tracks m.track_count x (omega (arith, listed.tracks));
       runs = refl;
@@ -133,7 +133,7 @@ module _ {K : Type 0} (t : Time K) (m : Memory K) where
       links = λ c l. refl;
     }
 
-    pub connection_agrees : (x : Connection K) → m.connection_count < 512 → Same t (register_of t (connection-memory m x)) (enter-connection (register_of t m) x)
+    pub connection_agrees : (x : Connection K) → m.connection_count < 512 → Same t (register_of t (connection_memory m x)) (enter_connection (register_of t m) x)
     connection_agrees x room =
         let n = m.connection_count in
         let long = long_connections in
@@ -153,51 +153,51 @@ module _ {K : Type 0} (t : Time K) (m : Memory K) where
         }
 
     -- one more run
-    module _ (x : Run K) (few : m.run_count < 512) (room : orders-entered t m + orders-added t m x.track ≤ 4096) where
+    module _ (x : Run K) (few : m.run_count < 512) (room : orders_entered t m + orders_added t m x.track ≤ 4096) where
       runs_now : take (m.run_count + 1) (set m.runs m.run_count (unused x)) ≡ take m.run_count m.runs ++ unused x ∷ []
       runs_now = take_more_set m.runs m.run_count (unused x) (omega (arith, listed.runs))
 
       -- at the runs as they are entered
-      track_was : (k : ℕ) → k < m.run_count → track-of t (take m.run_count m.runs ++ unused x ∷ []) k ≡ track-of t (take m.run_count m.runs) k
+      track_was : (k : ℕ) → k < m.run_count → track_of_lem t (take m.run_count m.runs ++ unused x ∷ []) k ≡ track_of_lem t (take m.run_count m.runs) k
       track_was k l = let e = long_runs in track_before t (take m.run_count m.runs) (unused x) k (omega arith)
 
-      track_new : track-of t (take m.run_count m.runs ++ unused x ∷ []) m.run_count ≡ x.track
+      track_new : track_of_lem t (take m.run_count m.runs ++ unused x ∷ []) m.run_count ≡ x.track
       track_new = ap (λ (y : Run K). y.track) (get_or_push (take m.run_count m.runs) (unused x) _ m.run_count long_runs)
 
-      settings_room : orders-entered t m + orders-added t m x.track ≤ length m.settings
+      settings_room : orders_entered t m + orders_added t m x.track ≤ length m.settings
       settings_room = let r = room in omega (arith, listed.settings)
 
       -- the byte of an order of earlier runs is as it was
-      order_was : (i j : ℕ) → i < j → j < m.run_count → track-of t (take m.run_count m.runs) i ≡ track-of t (take m.run_count m.runs) j → get_or (cleared m.settings (orders-entered t m) (orders-added t m x.track)) (place (track-of t (take m.run_count m.runs ++ unused x ∷ [])) i j) 0 ≡ get_or m.settings (place (track-of t (take m.run_count m.runs)) i j) 0
+      order_was : (i j : ℕ) → i < j → j < m.run_count → track_of_lem t (take m.run_count m.runs) i ≡ track_of_lem t (take m.run_count m.runs) j → get_or (cleared m.settings (orders_entered t m) (orders_added t m x.track)) (place (track_of_lem t (take m.run_count m.runs ++ unused x ∷ [])) i j) 0 ≡ get_or m.settings (place (track_of_lem t (take m.run_count m.runs)) i j) 0
       order_was i j b l shared =
-          let same = place_kept (track-of t (take m.run_count m.runs ++ unused x ∷ [])) (track-of t (take m.run_count m.runs)) i j b (λ k h. track_was k (omega arith)) in
-          let low = place_below (track-of t (take m.run_count m.runs)) m.run_count i j (record { below = b; inside = l; shared = shared }) in
-          ap (λ (p : ℕ). get_or (cleared m.settings (orders-entered t m) (orders-added t m x.track)) p 0) same ∙ cleared_below m.settings (orders-entered t m) (orders-added t m x.track) settings_room _ low
+          let same = place_kept (track_of_lem t (take m.run_count m.runs ++ unused x ∷ [])) (track_of_lem t (take m.run_count m.runs)) i j b (λ k h. track_was k (omega arith)) in
+          let low = place_below (track_of_lem t (take m.run_count m.runs)) m.run_count i j (record { below = b; inside = l; shared = shared }) in
+          ap (λ (p : ℕ). get_or (cleared m.settings (orders_entered t m) (orders_added t m x.track)) p 0) same ∙ cleared_below m.settings (orders_entered t m) (orders_added t m x.track) settings_room _ low
 
       -- the byte of an order of the new run is cleared
-      order_new : (i : ℕ) → i < m.run_count → track-of t (take m.run_count m.runs ++ unused x ∷ []) i ≡ track-of t (take m.run_count m.runs ++ unused x ∷ []) m.run_count → get_or (cleared m.settings (orders-entered t m) (orders-added t m x.track)) (place (track-of t (take m.run_count m.runs ++ unused x ∷ [])) i m.run_count) 0 ≡ 0
+      order_new : (i : ℕ) → i < m.run_count → track_of_lem t (take m.run_count m.runs ++ unused x ∷ []) i ≡ track_of_lem t (take m.run_count m.runs ++ unused x ∷ []) m.run_count → get_or (cleared m.settings (orders_entered t m) (orders_added t m x.track)) (place (track_of_lem t (take m.run_count m.runs ++ unused x ∷ [])) i m.run_count) 0 ≡ 0
       order_new i b shared =
           let n = m.run_count in
-          let f : ℕ → ℕ = track-of t (take m.run_count m.runs) in
-          let g : ℕ → ℕ = track-of t (take m.run_count m.runs ++ unused x ∷ []) in
+          let f : ℕ → ℕ = track_of_lem t (take m.run_count m.runs) in
+          let g : ℕ → ℕ = track_of_lem t (take m.run_count m.runs ++ unused x ∷ []) in
           let sum : total g n ≡ total f n = total_kept g f n track_was in
           let fewer : earlier g i < earlier g n = count_below g i n b shared in
           let many : earlier g n ≡ count f x.track n = ap (λ (y : ℕ). count g y n) track_new ∙ count_kept g f x.track n track_was in
-          cleared_inside m.settings (orders-entered t m) (orders-added t m x.track) settings_room _ (omega arith) (omega arith)
+          cleared_inside m.settings (orders_entered t m) (orders_added t m x.track) settings_room _ (omega arith) (omega arith)
 
-      pub run_entered_agrees : Same t (register_of t (run-memory t m x)) (enter-run (register_of t m) x)
+      pub run_entered_agrees : Same t (register_of t (run_memory t m x)) (enter_run (register_of t m) x)
       run_entered_agrees =
           let n = m.run_count in
           let long = long_runs in
-          let bytes : List ℕ = cleared m.settings (orders-entered t m) (orders-added t m x.track) in
-          let O : List (Run K) → Type 0 = λ rs. (i j : ℕ) → Ordered (track-of t rs) (length rs) i j → get_or bytes (place (track-of t rs) i j) 0 ≡ cond (eqb j (length (take n m.runs))) 0 (get_or m.settings (place (track-of t (take n m.runs)) i j) 0) in
+          let bytes : List ℕ = cleared m.settings (orders_entered t m) (orders_added t m x.track) in
+          let O : List (Run K) → Type 0 = λ rs. (i j : ℕ) → Ordered (track_of_lem t rs) (length rs) i j → get_or bytes (place (track_of_lem t rs) i j) 0 ≡ cond (eqb j (length (take n m.runs))) 0 (get_or m.settings (place (track_of_lem t (take n m.runs)) i j) 0) in
           let orders-now : O (take n m.runs ++ unused x ∷ []) = λ i j o.
           (let longer = length_push (take n m.runs) (unused x) in
           let b = o.below in
           let l = o.inside in
           elim (cases_eq j n) [
             | inl e ↦
-                (let g : ℕ → ℕ = track-of t (take n m.runs ++ unused x ∷ []) in
+                (let g : ℕ → ℕ = track_of_lem t (take n m.runs ++ unused x ∷ []) in
                 let P : ℕ → Type 0 = λ k. get_or bytes (place g i k) 0 ≡ 0 in
                 subst P (sym e) (order_new i (omega arith) (o.shared ∙ ap g e)) ∙ sym (cond-true (eqb j (length (take n m.runs))) 0 _ (eq-eqb _ _ (e ∙ sym long))))
             | inr ne ↦
@@ -209,7 +209,7 @@ module _ {K : Type 0} (t : Time K) (m : Memory K) where
             runs = runs_now;
             connections = refl;
             orders = subst O (sym runs_now) orders-now;
-            links = λ c l. cleared_above m.settings (orders-entered t m) (orders-added t m x.track) settings_room (4096 + c) (let r = room in omega arith);
+            links = λ c l. cleared_above m.settings (orders_entered t m) (orders_added t m x.track) settings_room (4096 + c) (let r = room in omega arith);
           }
 
     pub steps_of : StepsOf t m

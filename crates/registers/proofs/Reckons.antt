@@ -8,7 +8,7 @@ use Rattle.records.specs.Register.{Register}
 use Rattle.rules.specs.declared.faults.PlanFault.{PlanFault}
 use Rattle.rules.specs.declared.faults.PlanFault.TheVariants as fault
 use Rattle.rules.specs.Faults.{plan_number, plan_place}
-use Rattle.plan.specs.Calls.{ring-rows, RingLeft, TimesLeft, RingAnswer, Reckons}
+use Rattle.plan.specs.Calls.{ring_rows, RingLeft, TimesLeft, RingAnswer, Reckons}
 use Rattle.registers.specs.Steps.{Same}
 use Rattle.registers.proofs.Forces.{force_shared}
 use Rattle.registers.proofs.Matches.{Matching, matching_more, matching_answers}
@@ -53,7 +53,7 @@ module _ {K : Type 0} (t : Time K) (R S : Register K) (h : Same t R S) where
     -- the rows in front of the ring's may be others that match
     pub reckons_there : (xs ys : List Row) (was times : List K) (ring_was ring : List ℕ) (r : Result X PlanFault) → Matching xs ys → Reckons t xs R was times ring_was ring r → Reckons t ys S was times ring_was ring r
     reckons_there xs ys was times ring_was ring r m k = record {
-      answers = matching_answers plan_number plan_place (xs ++ ring-rows t R) (ys ++ ring-rows t S) r (matching_more xs ys (ring-rows t R) (ring-rows t S) m (λ _. ring_match t R S h)) k.answers;
+      answers = matching_answers plan_number plan_place (xs ++ ring_rows t R) (ys ++ ring_rows t S) r (matching_more xs ys (ring_rows t R) (ring_rows t S) m (λ _. ring_match t R S h)) k.answers;
       shows = times_left_there was times r k.shows;
       names = ring_answer_there ring_was ring r k.names;
     }

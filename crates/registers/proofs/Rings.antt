@@ -9,11 +9,11 @@ use Rattle.network.proofs.Tables.{no_ring}
 use Rattle.records.specs.declared.Track.{Track}
 use Rattle.records.specs.declared.Run.{Run}
 use Rattle.records.specs.declared.Connection.{Connection}
-use Rattle.records.specs.Records.{run_at, track-at, connection-at, track-of}
+use Rattle.records.specs.Records.{run_at, track_at, connection_at, track_of_lem}
 use Rattle.records.specs.Register.{Register}
 use Rattle.records.specs.Stored.{Limits}
 use Rattle.force.specs.Force.{Joins, Running, Dwell, Connects, Departures, Arrivals, Meeting, Ahead, InForce, running, dwell, connection, departures, arrivals, meeting}
-use Rattle.force.specs.Constraints.{arcs-in-force, in-force}
+use Rattle.force.specs.Constraints.{arcs_in_force, in_force}
 use Rattle.force.proofs.Alike.{ring_there}
 use Rattle.force.proofs.Sizes.{in_force_fit}
 use Rattle.plan.specs.Steps.{reported, holding}
@@ -124,32 +124,32 @@ module _ {K : Type 0} (t : Time K) (R : Register K) where
     pub in_force_was : (a : Arc K) → InForce t (with_run R r x) a → InForce t R a
     in_force_was a (running k i h) = running k (inside_was k i) (running_was k _ _ a (each_later k) h)
     in_force_was a (dwell k i h) = dwell k (inside_was k i) (dwell_was k _ _ a (each_later k) h)
-    in_force_was a (connection c i e h) = connection c i e (connects_was (connection-at t R.connections c) _ _ a (each_later (connection-at t R.connections c).onward) h)
+    in_force_was a (connection c i e h) = connection c i e (connects_was (connection_at t R.connections c) _ _ a (each_later (connection_at t R.connections c).onward) h)
     in_force_was a (departures u v h d) =
         let now : ℕ → Run K = run_at t (set R.runs r x) in
-        let P : ℕ → Type 0 = λ n. Departures (track-at t R.tracks n) u (now u) v (now v) a in
-        departures u v (ahead_was u v h) (departures_was (track-at t R.tracks (track-of t R.runs v)) u v _ _ _ _ a (each_later u) (each_later v) (subst P (each_later v).track d))
+        let P : ℕ → Type 0 = λ n. Departures (track_at t R.tracks n) u (now u) v (now v) a in
+        departures u v (ahead_was u v h) (departures_was (track_at t R.tracks (track_of_lem t R.runs v)) u v _ _ _ _ a (each_later u) (each_later v) (subst P (each_later v).track d))
     in_force_was a (arrivals u v h d) =
         let now : ℕ → Run K = run_at t (set R.runs r x) in
-        let P : ℕ → Type 0 = λ n. Arrivals (track-at t R.tracks n) u (now u) v (now v) a in
-        arrivals u v (ahead_was u v h) (arrivals_was (track-at t R.tracks (track-of t R.runs v)) u v _ _ _ _ a (each_later u) (each_later v) (subst P (each_later v).track d))
+        let P : ℕ → Type 0 = λ n. Arrivals (track_at t R.tracks n) u (now u) v (now v) a in
+        arrivals u v (ahead_was u v h) (arrivals_was (track_at t R.tracks (track_of_lem t R.runs v)) u v _ _ _ _ a (each_later u) (each_later v) (subst P (each_later v).track d))
     in_force_was a (meeting u v h d) =
         let now : ℕ → Run K = run_at t (set R.runs r x) in
-        let P : ℕ → Type 0 = λ n. Meeting (track-at t R.tracks n) u (now u) v (now v) a in
-        meeting u v (ahead_was u v h) (meeting_was (track-at t R.tracks (track-of t R.runs v)) u v _ _ _ _ a (each_later u) (each_later v) (subst P (each_later v).track d))
+        let P : ℕ → Type 0 = λ n. Meeting (track_at t R.tracks n) u (now u) v (now v) a in
+        meeting u v (ahead_was u v h) (meeting_was (track_at t R.tracks (track_of_lem t R.runs v)) u v _ _ _ _ a (each_later u) (each_later v) (subst P (each_later v).track d))
 
     -- so a ring was a ring
-    pub ring_was : HasRing t (arcs-in-force t (with_run R r x)) → HasRing t (arcs-in-force t R)
-    ring_was = ring_there t (arcs-in-force t (with_run R r x)) (arcs-in-force t R) (λ a has. (a, in_force_was a has, refl))
+    pub ring_was : HasRing t (arcs_in_force t (with_run R r x)) → HasRing t (arcs_in_force t R)
+    ring_was = ring_there t (arcs_in_force t (with_run R r x)) (arcs_in_force t R) (λ a has. (a, in_force_was a has, refl))
 
-  module _ (laws : Laws t) (limits : Limits t R) (time : ℕ → K) (table : Table t (in-force t R) time) (meets : Meets t (in-force t R) time) where
-    pub ringless : HasRing t (arcs-in-force t R) → ⊥
-    ringless h = no_ring laws (in-force t R) (in_force_fit t R limits) (omega (arith, limits.few_runs)) time table meets h.0 h.1
+  module _ (laws : Laws t) (limits : Limits t R) (time : ℕ → K) (table : Table t (in_force t R) time) (meets : Meets t (in_force t R) time) where
+    pub ringless : HasRing t (arcs_in_force t R) → ⊥
+    ringless h = no_ring laws (in_force t R) (in_force_fit t R limits) (omega (arith, limits.few_runs)) time table meets h.0 h.1
 
-    report_ringless : (v : ℕ) (at : K) → HasRing t (arcs-in-force t (report t R v at)) → ⊥
+    report_ringless : (v : ℕ) (at : K) → HasRing t (arcs_in_force t (report t R v at)) → ⊥
     report_ringless v at h = ringless (ring_was (v / 2) (reported (run_at t R.runs (v / 2)) (v % 2) at) (later_reported (run_at t R.runs (v / 2)) (v % 2) at) h)
 
-    hold_ringless : (r : ℕ) (until : Option K) → HasRing t (arcs-in-force t (hold t R r until)) → ⊥
+    hold_ringless : (r : ℕ) (until : Option K) → HasRing t (arcs_in_force t (hold t R r until)) → ⊥
     hold_ringless r until h = ringless (ring_was r (holding (run_at t R.runs r) until) (later_holding (run_at t R.runs r) until) h)
 
     pub ring_free : RingFree t R

@@ -7,18 +7,18 @@ use Rattle.network.specs.Refusals.{Passed}
 use Rattle.records.specs.declared.Track.{Track}
 use Rattle.records.specs.declared.Run.{Run}
 use Rattle.records.specs.declared.Connection.{Connection}
-use Rattle.records.specs.Records.{run_at, connection-at, track-of}
+use Rattle.records.specs.Records.{run_at, connection_at, track_of_lem}
 use Rattle.records.specs.Places.{count, total}
 use Rattle.records.specs.Register.{Register}
 use Rattle.records.specs.Stored.{Limits, Drafted, Unused, TrackStored, RunStored, ConnectionStored, ConnectionsStored}
 use Rattle.records.proofs.Counts.{count_kept, total_kept, total_more}
 use Rattle.rules.specs.declared.switches.Switch.{Switch}
 use Rattle.rules.specs.declared.switches.Switch.TheVariants as switch
-use Rattle.rules.specs.Rows.{orders-with, track-rows, run-rows, connection-rows, report-rows, hold-rows, release-rows}
+use Rattle.rules.specs.Rows.{orders_with, track_rows, run_rows, connection_rows, report_rows, hold_rows, release_rows}
 use Rattle.rules.proofs.Rows.{track_passed, run_passed, connection_passed, setting_flag, turning_set, report_passed, hold_passed, release_passed}
 use Rattle.plan.specs.Steps.{unused, reported, holding}
 use Rattle.plan.proofs.Stays.{reported_stored, holding_stored}
-use Rattle.registers.specs.Steps.{empty, enter-track, enter-run, enter-connection, set-switch, with_run, report, hold}
+use Rattle.registers.specs.Steps.{empty, enter_track, enter_run, enter_connection, set_switch, with_run, report, hold}
 use Rattle.registers.specs.Stays.{StepsLimited, StepsDrafted, LimitsKept}
 use Rattle.registers.proofs.Kept.{track_before, ordered_before, track_still, ordered_still}
 
@@ -59,7 +59,7 @@ module _ {K : Type 0} (t : Time K) where
   connection_wider n m x le h = (omega (arith, h.0), (omega (arith, h.1.0), h.1.1))
 
   module _ (R : Register K) (limits : Limits t R) where
-    pub track_limits : (x : Track K) → Passed (track-rows t R x) → Limits t (enter-track R x)
+    pub track_limits : (x : Track K) → Passed (track_rows t R x) → Limits t (enter_track R x)
     track_limits x p =
         let h = track_passed t R x p in
         let n = length_push R.tracks x in
@@ -78,14 +78,14 @@ module _ {K : Type 0} (t : Time K) where
 
     -- one run more
     module _ (x : Run K) where
-      track_new : track-of t (R.runs ++ unused x ∷ []) (length R.runs) ≡ x.track
+      track_new : track_of_lem t (R.runs ++ unused x ∷ []) (length R.runs) ≡ x.track
       track_new = ap (λ (y : Run K). y.track) (get_or_push R.runs (unused x) _ (length R.runs) refl)
 
-      pub orders_more : total (track-of t (R.runs ++ unused x ∷ [])) (length (R.runs ++ unused x ∷ [])) ≡ orders-with t R x.track
+      pub orders_more : total (track_of_lem t (R.runs ++ unused x ∷ [])) (length (R.runs ++ unused x ∷ [])) ≡ orders_with t R x.track
       orders_more =
           let n = length R.runs in
-          let f : ℕ → ℕ = track-of t R.runs in
-          let g : ℕ → ℕ = track-of t (R.runs ++ unused x ∷ []) in
+          let f : ℕ → ℕ = track_of_lem t R.runs in
+          let g : ℕ → ℕ = track_of_lem t (R.runs ++ unused x ∷ []) in
           let same : (k : ℕ) → k < n → g k ≡ f k = track_before t R.runs (unused x) in
           let long : total g (length (R.runs ++ unused x ∷ [])) ≡ total g (n + 1) = ap (total g) (length_push R.runs (unused x)) in
           let a = total_more g n in
@@ -93,7 +93,7 @@ module _ {K : Type 0} (t : Time K) where
           let c : count g (g n) n ≡ count g x.track n = ap (λ (y : ℕ). count g y n) track_new in
           let d = count_kept g f x.track n same in omega arith
 
-      pub run_limits : Passed (run-rows t R x) → Limits t (enter-run R x)
+      pub run_limits : Passed (run_rows t R x) → Limits t (enter_run R x)
       run_limits p =
           let h = run_passed t R x p in
           let n = length_push R.runs (unused x) in
@@ -107,7 +107,7 @@ module _ {K : Type 0} (t : Time K) where
             few_orders = omega (arith, orders_more, h.orders);
             tracks = limits.tracks;
             runs = record { each = each_more P R.runs (unused x) _ limits.runs.each (h.linked, (h.scheduled, (tt, (tt, (tt, tt))))) };
-            connections = record { each = λ c l. connection_wider (length R.runs) (length (R.runs ++ unused x ∷ [])) (connection-at t R.connections c) (omega arith) (limits.connections.each c l) };
+            connections = record { each = λ c l. connection_wider (length R.runs) (length (R.runs ++ unused x ∷ [])) (connection_at t R.connections c) (omega arith) (limits.connections.each c l) };
             orders = λ i j o. elim (cases_eq j (length R.runs)) [
               | inl e ↦ subst F (sym (cond-true (eqb j (length R.runs)) 0 (R.order i j) (eq-eqb j (length R.runs) e))) none
               | inr ne ↦
@@ -117,7 +117,7 @@ module _ {K : Type 0} (t : Time K) where
             links = limits.links;
           }
 
-    pub connection_limits : (x : Connection K) → Passed (connection-rows t R x) → Limits t (enter-connection R x)
+    pub connection_limits : (x : Connection K) → Passed (connection_rows t R x) → Limits t (enter_connection R x)
     connection_limits x p =
         let h = connection_passed t R x p in
         let n = length_push R.connections x in
@@ -139,7 +139,7 @@ module _ {K : Type 0} (t : Time K) where
           ];
         }
 
-    pub flag_limits : (s : Switch) (v : ℕ) → v ≤ 1 → Limits t (set-switch R s v)
+    pub flag_limits : (s : Switch) (v : ℕ) → v ≤ 1 → Limits t (set_switch R s v)
     flag_limits (switch.Order i j) v small =
         let F : ℕ → Type 0 = λ b. b ≤ 1 in
         record {
@@ -168,11 +168,11 @@ module _ {K : Type 0} (t : Time K) where
         }
 
     -- another run on the same track
-    pub with_run_limits : (r : ℕ) (x : Run K) → r < length R.runs → x.track ≡ track-of t R.runs r → RunStored t (length R.tracks) r x → Limits t (with_run R r x)
+    pub with_run_limits : (r : ℕ) (x : Run K) → r < length R.runs → x.track ≡ track_of_lem t R.runs r → RunStored t (length R.tracks) r x → Limits t (with_run R r x)
     with_run_limits r x inside e good =
         let n = length-set R.runs r x in
-        let f : ℕ → ℕ = track-of t R.runs in
-        let g : ℕ → ℕ = track-of t (set R.runs r x) in
+        let f : ℕ → ℕ = track_of_lem t R.runs in
+        let g : ℕ → ℕ = track_of_lem t (set R.runs r x) in
         let here : run_at t (set R.runs r x) r ≡ x = get_or-set_same R.runs r x _ inside in
         let there : (k : ℕ) → (k ≡ r → ⊥) → run_at t (set R.runs r x) k ≡ run_at t R.runs k = λ k ne. get_or-set_other R.runs r k x _ ne in
         let P : ℕ → Run K → Type 0 = RunStored t (length R.tracks) in
@@ -198,7 +198,7 @@ module _ {K : Type 0} (t : Time K) where
           links = limits.links;
         }
 
-    pub report_limits : (v : ℕ) (at : K) → Passed (report-rows t R v at) → Limits t (report t R v at)
+    pub report_limits : (v : ℕ) (at : K) → Passed (report_rows t R v at) → Limits t (report t R v at)
     report_limits v at p =
         let h = report_passed t R v at p in
         let k = h.known in
@@ -207,13 +207,13 @@ module _ {K : Type 0} (t : Time K) where
         let x = run_at t R.runs (v / 2) in
         with_run_limits (v / 2) (reported x (v % 2) at) inside refl (reported_stored t (length R.tracks) (v / 2) (v % 2) x at side h.sized h.departure h.arrival (limits.runs.each (v / 2) inside))
 
-    pub hold_limits : (r : ℕ) (until : K) → Passed (hold-rows t R r until) → Limits t (hold t R r (Some until))
+    pub hold_limits : (r : ℕ) (until : K) → Passed (hold_rows t R r until) → Limits t (hold t R r (Some until))
     hold_limits r until p =
         let h = hold_passed t R r until p in
         let x = run_at t R.runs r in
         with_run_limits r (holding x (Some until)) h.known refl (holding_stored t (length R.tracks) r x (Some until) h.sized (limits.runs.each r h.known))
 
-    pub release_limits : (plan slip-plan slip-run : ℕ) → Passed (release-rows t R plan slip-plan slip-run) → Limits t (hold t R slip-run None)
+    pub release_limits : (plan slip-plan slip-run : ℕ) → Passed (release_rows t R plan slip-plan slip-run) → Limits t (hold t R slip-run None)
     release_limits plan slip-plan r p =
         let h = release_passed t R plan slip-plan r p in
         let x = run_at t R.runs r in
@@ -232,10 +232,10 @@ module _ {K : Type 0} (t : Time K) where
     }
 
   module _ (R : Register K) (drafted : Drafted t R) where
-    pub run_drafted : (x : Run K) → Drafted t (enter-run R x)
+    pub run_drafted : (x : Run K) → Drafted t (enter_run R x)
     run_drafted x = let P : ℕ → Run K → Type 0 = λ k. Unused in record { each = each_more P R.runs (unused x) _ drafted.each (refl, (refl, refl)) }
 
-    pub switch_drafted : (s : Switch) (v : ℕ) → Drafted t (set-switch R s v)
+    pub switch_drafted : (s : Switch) (v : ℕ) → Drafted t (set_switch R s v)
     switch_drafted (switch.Order i j) v = record { each = drafted.each }
     switch_drafted (switch.Connection c) v = record { each = drafted.each }
 

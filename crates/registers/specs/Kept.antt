@@ -6,15 +6,15 @@ use Rattle.records.specs.declared.Run.{Run}
 use Rattle.records.specs.declared.Connection.{Connection}
 use Rattle.records.specs.Register.{Register}
 use Rattle.rules.specs.declared.switches.Switch.{Switch}
-use Rattle.registers.specs.Steps.{Same, enter-track, enter-run, enter-connection, set-switch, report, hold}
+use Rattle.registers.specs.Steps.{Same, enter_track, enter_run, enter_connection, set_switch, report, hold}
 
 module _ {K : Type 0} (t : Time K) where
   -- one step on both, whatever it names, and they still say the same
   pub record StepsKept (R S : Register K) : Type 0 where
-    pub track : (x : Track K) → Same t (enter-track R x) (enter-track S x)
-    pub run : (x : Run K) → Same t (enter-run R x) (enter-run S x)
-    pub connection : (x : Connection K) → Same t (enter-connection R x) (enter-connection S x)
-    pub switch : (s : Switch) (setting : ℕ) → Same t (set-switch R s setting) (set-switch S s setting)
+    pub track : (x : Track K) → Same t (enter_track R x) (enter_track S x)
+    pub run : (x : Run K) → Same t (enter_run R x) (enter_run S x)
+    pub connection : (x : Connection K) → Same t (enter_connection R x) (enter_connection S x)
+    pub switch : (s : Switch) (setting : ℕ) → Same t (set_switch R s setting) (set_switch S s setting)
     pub report : (v : ℕ) (at : K) → Same t (report t R v at) (report t S v at)
     pub hold : (r : ℕ) (until : Option K) → Same t (hold t R r until) (hold t S r until)
 

@@ -8,27 +8,27 @@ use Rattle.records.specs.declared.Connection.{Connection}
 use Rattle.records.specs.Register.{Register}
 use Rattle.records.specs.Stored.{Limits, Drafted}
 use Rattle.rules.specs.declared.switches.Switch.{Switch}
-use Rattle.rules.specs.Rows.{track-rows, run-rows, connection-rows, setting-rows, turning-rows, report-rows, hold-rows, release-rows}
-use Rattle.registers.specs.Steps.{empty, enter-track, enter-run, enter-connection, set-switch, report, hold}
+use Rattle.rules.specs.Rows.{track_rows, run_rows, connection_rows, setting_rows, turning_rows, report_rows, hold_rows, release_rows}
+use Rattle.registers.specs.Steps.{empty, enter_track, enter_run, enter_connection, set_switch, report, hold}
 
 module _ {K : Type 0} (t : Time K) where
   -- a step that no row refuses
   pub record StepsLimited (R : Register K) : Type 0 where
-    pub track : (x : Track K) → Passed (track-rows t R x) → Limits t (enter-track R x)
-    pub run : (x : Run K) → Passed (run-rows t R x) → Limits t (enter-run R x)
-    pub connection : (x : Connection K) → Passed (connection-rows t R x) → Limits t (enter-connection R x)
-    pub setting : (s : Switch) (v : ℕ) → Passed (setting-rows t R s v) → Limits t (set-switch R s v)
-    pub turning : (s : Switch) (v : ℕ) → Passed (turning-rows t R s v) → Limits t (set-switch R s v)
-    pub reporting : (v : ℕ) (at : K) → Passed (report-rows t R v at) → Limits t (report t R v at)
-    pub holding : (r : ℕ) (until : K) → Passed (hold-rows t R r until) → Limits t (hold t R r (Some until))
-    pub releasing : (plan slip-plan slip-run : ℕ) → Passed (release-rows t R plan slip-plan slip-run) → Limits t (hold t R slip-run None)
+    pub track : (x : Track K) → Passed (track_rows t R x) → Limits t (enter_track R x)
+    pub run : (x : Run K) → Passed (run_rows t R x) → Limits t (enter_run R x)
+    pub connection : (x : Connection K) → Passed (connection_rows t R x) → Limits t (enter_connection R x)
+    pub setting : (s : Switch) (v : ℕ) → Passed (setting_rows t R s v) → Limits t (set_switch R s v)
+    pub turning : (s : Switch) (v : ℕ) → Passed (turning_rows t R s v) → Limits t (set_switch R s v)
+    pub reporting : (v : ℕ) (at : K) → Passed (report_rows t R v at) → Limits t (report t R v at)
+    pub holding : (r : ℕ) (until : K) → Passed (hold_rows t R r until) → Limits t (hold t R r (Some until))
+    pub releasing : (plan slip-plan slip-run : ℕ) → Passed (release_rows t R plan slip-plan slip-run) → Limits t (hold t R slip-run None)
 
   -- a step on a draft, whatever it names
   pub record StepsDrafted (R : Register K) : Type 0 where
-    pub track : (x : Track K) → Drafted t (enter-track R x)
-    pub run : (x : Run K) → Drafted t (enter-run R x)
-    pub connection : (x : Connection K) → Drafted t (enter-connection R x)
-    pub switch : (s : Switch) (v : ℕ) → Drafted t (set-switch R s v)
+    pub track : (x : Track K) → Drafted t (enter_track R x)
+    pub run : (x : Run K) → Drafted t (enter_run R x)
+    pub connection : (x : Connection K) → Drafted t (enter_connection R x)
+    pub switch : (s : Switch) (v : ℕ) → Drafted t (set_switch R s v)
 
   pub record LimitsKept : Type 0 where
     pub none : Limits t empty

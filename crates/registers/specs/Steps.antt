@@ -4,7 +4,7 @@ use Rattle.kinds.specs.Time.{Time}
 use Rattle.records.specs.declared.Track.{Track}
 use Rattle.records.specs.declared.Run.{Run}
 use Rattle.records.specs.declared.Connection.{Connection}
-use Rattle.records.specs.Records.{run_at, track-of}
+use Rattle.records.specs.Records.{run_at, track_of_lem}
 use Rattle.records.specs.Places.{Ordered}
 use Rattle.records.specs.Register.{Register}
 use Rattle.rules.specs.declared.switches.Switch.{Switch}
@@ -16,8 +16,8 @@ module _ {K : Type 0} where
   abbrev pub empty : Register K
   empty = record { tracks = []; runs = []; connections = []; order = λ i j. 0; link = λ c. 0 }
 
-  abbrev pub enter-track : Register K → Track K → Register K
-  enter-track R x = record {
+  abbrev pub enter_track : Register K → Track K → Register K
+  enter_track R x = record {
     tracks = R.tracks ++ x ∷ [];
     runs = R.runs;
     connections = R.connections;
@@ -26,8 +26,8 @@ module _ {K : Type 0} where
   }
 
   -- the run is neither reported nor held, and in each of its orders the earlier run is ahead
-  abbrev pub enter-run : Register K → Run K → Register K
-  enter-run R x = record {
+  abbrev pub enter_run : Register K → Run K → Register K
+  enter_run R x = record {
     tracks = R.tracks;
     runs = R.runs ++ unused x ∷ [];
     connections = R.connections;
@@ -36,8 +36,8 @@ module _ {K : Type 0} where
   }
 
   -- the connection is kept
-  abbrev pub enter-connection : Register K → Connection K → Register K
-  enter-connection R x = record {
+  abbrev pub enter_connection : Register K → Connection K → Register K
+  enter_connection R x = record {
     tracks = R.tracks;
     runs = R.runs;
     connections = R.connections ++ x ∷ [];
@@ -46,15 +46,15 @@ module _ {K : Type 0} where
   }
 
   -- one order or one connection has another setting
-  abbrev pub set-switch : Register K → Switch → ℕ → Register K
-  set-switch R (switch.Order i j) setting = record {
+  abbrev pub set_switch : Register K → Switch → ℕ → Register K
+  set_switch R (switch.Order i j) setting = record {
     tracks = R.tracks;
     runs = R.runs;
     connections = R.connections;
     order = λ k l. cond (k == i && l == j) setting (R.order k l);
     link = R.link;
   }
-  set-switch R (switch.Connection c) setting = record {
+  set_switch R (switch.Connection c) setting = record {
     tracks = R.tracks;
     runs = R.runs;
     connections = R.connections;
@@ -87,5 +87,5 @@ module _ {K : Type 0} where
       pub tracks : R.tracks ≡ S.tracks
       pub runs : R.runs ≡ S.runs
       pub connections : R.connections ≡ S.connections
-      pub orders : (i j : ℕ) → Ordered (track-of t R.runs) (length R.runs) i j → R.order i j ≡ S.order i j
+      pub orders : (i j : ℕ) → Ordered (track_of_lem t R.runs) (length R.runs) i j → R.order i j ≡ S.order i j
       pub links : (c : ℕ) → c < length R.connections → R.link c ≡ S.link c

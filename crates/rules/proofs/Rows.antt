@@ -6,14 +6,14 @@ use Rattle.network.specs.Refusals.{Row, row, Passed}
 use Rattle.records.specs.declared.Track.{Track}
 use Rattle.records.specs.declared.Run.{Run}
 use Rattle.records.specs.declared.Connection.{Connection}
-use Rattle.records.specs.Records.{run_at, track-of}
+use Rattle.records.specs.Records.{run_at, track_of_lem}
 use Rattle.records.specs.Places.{Ordered}
 use Rattle.records.specs.Register.{Register, Memory, all_of}
 use Rattle.records.specs.Stored.{Sized, Duration, TrackStored, Linked, Scheduled, ConnectionStored, Limits}
 use Rattle.records.proofs.Counts.{place_below}
 use Rattle.rules.specs.declared.switches.Switch.{Switch}
 use Rattle.rules.specs.declared.switches.Switch.TheVariants as switch
-use Rattle.rules.specs.Rows.{Given, NotEarlier, NoDuration, TooLate, track-rows, orders-with, run-rows, connection-rows, switch-rows, setting-place, setting-of, setting-rows, turning-rows, event-rows, report-rows, hold-rows, release-rows}
+use Rattle.rules.specs.Rows.{Given, NotEarlier, NoDuration, TooLate, track_rows, orders_with, run_rows, connection_rows, switch_rows, setting_place, setting_of_lem, setting_rows, turning_rows, event_rows, report_rows, hold_rows, release_rows}
 
 -- of more rows that do not apply the first do not
 pub passed_front : (xs ys : List Row) → Passed (xs ++ ys) → Passed xs
@@ -50,7 +50,7 @@ module _ {K : Type 0} (t : Time K) where
   duration d n = (at_most 100000 (t.size d) (λ h. n (inl h)), elim (cases_Bool (t.before t.none d)) [ inl e ↦ e | inr e ↦ absurd (n (inr e)) ])
 
   -- entering a track
-  pub track_passed : (R : Register K) (x : Track K) → Passed (track-rows t R x) → TrackStored t x × (length R.tracks < 64)
+  pub track_passed : (R : Register K) (x : Track K) → Passed (track_rows t R x) → TrackStored t x × (length R.tracks < 64)
   track_passed R x p =
       ((duration x.headway (λ h. p.0 (inl h)), (duration x.meeting (λ h. p.0 (inr h)), at_most 1000000 x.penalty p.1.1.0)), below 64 (length R.tracks) p.1.0)
 
@@ -59,61 +59,61 @@ module _ {K : Type 0} (t : Time K) where
     pub linked : Linked (length R.tracks) (length R.runs) x
     pub scheduled : Scheduled t x
     pub room : length R.runs < 512
-    pub orders : orders-with t R x.track ≤ 4096
+    pub orders : orders_with t R x.track ≤ 4096
 
-  pub run_passed : (R : Register K) (x : Run K) → Passed (run-rows t R x) → RunPassed R x
+  pub run_passed : (R : Register K) (x : Run K) → Passed (run_rows t R x) → RunPassed R x
   run_passed R x p = record {
     linked = (earlier (length R.runs) x.predecessor p.1.0, (below (length R.tracks) x.track p.0, (at_most 1000 x.weight (λ h. p.1.1.1.1.1.0 (inl h)), at_most 1 x.direction (λ h. p.1.1.1.1.1.0 (inr h)))));
     scheduled = (at_most 1000000 (t.size x.departure) (λ h. p.1.1.0 (inl h)), (at_most 1000000 (t.size x.arrival) (λ h. p.1.1.0 (inr h)), (duration x.running (λ h. p.1.1.1.0 (inl h)), duration x.dwell (λ h. p.1.1.1.0 (inr h)))));
     room = below 512 (length R.runs) (λ h. p.1.1.1.1.0 (inl h));
-    orders = at_most 4096 (orders-with t R x.track) (λ h. p.1.1.1.1.0 (inr h));
+    orders = at_most 4096 (orders_with t R x.track) (λ h. p.1.1.1.1.0 (inr h));
   }
 
   -- entering a connection
-  pub connection_passed : (R : Register K) (x : Connection K) → Passed (connection-rows t R x) → ConnectionStored t (length R.runs) x × (length R.connections < 512)
+  pub connection_passed : (R : Register K) (x : Connection K) → Passed (connection_rows t R x) → ConnectionStored t (length R.runs) x × (length R.connections < 512)
   connection_passed R x p =
       ((below (length R.runs) x.feeder p.0, (below (length R.runs) x.onward p.1.0, (p.1.1.0, (at_most 1000000 x.penalty p.1.1.1.1.1.0, duration x.time p.1.1.1.0)))), below 512 (length R.connections) p.1.1.1.1.0)
 
   -- naming an order or a connection
-  pub order_passed : (R : Register K) (i j : ℕ) → Passed (switch-rows t R (switch.Order i j)) → Ordered (track-of t R.runs) (length R.runs) i j
+  pub order_passed : (R : Register K) (i j : ℕ) → Passed (switch_rows t R (switch.Order i j)) → Ordered (track_of_lem t R.runs) (length R.runs) i j
   order_passed R i j p = record {
     below = below j i p.1.1.0;
     inside = below (length R.runs) j p.1.0;
-    shared = elim (cases_eq (track-of t R.runs i) (track-of t R.runs j)) [ inl e ↦ e | inr e ↦ absurd (p.1.1.1.0 e) ];
+    shared = elim (cases_eq (track_of_lem t R.runs i) (track_of_lem t R.runs j)) [ inl e ↦ e | inr e ↦ absurd (p.1.1.1.0 e) ];
   }
 
-  pub link_passed : (R : Register K) (c : ℕ) → Passed (switch-rows t R (switch.Connection c)) → c < length R.connections
+  pub link_passed : (R : Register K) (c : ℕ) → Passed (switch_rows t R (switch.Connection c)) → c < length R.connections
   link_passed R c p = below (length R.connections) c p.0
 
   -- the setting of a switch is the byte at its place
-  pub setting_read : (m : Memory K) (s : Switch) → setting-of t (all_of t m) s ≡ get_or m.settings (setting-place t (all_of t m) s) 0
+  pub setting_read : (m : Memory K) (s : Switch) → setting_of_lem t (all_of t m) s ≡ get_or m.settings (setting_place t (all_of t m) s) 0
   setting_read m (switch.Order i j) = refl
   setting_read m (switch.Connection c) = refl
 
   -- that place is inside
-  pub setting_inside : (R : Register K) (s : Switch) → Limits t R → Passed (switch-rows t R s) → setting-place t R s < 4608
-  setting_inside R (switch.Order i j) l p = let h = place_below (track-of t R.runs) (length R.runs) i j (order_passed R i j p) in omega (arith, l.few_orders)
+  pub setting_inside : (R : Register K) (s : Switch) → Limits t R → Passed (switch_rows t R s) → setting_place t R s < 4608
+  setting_inside R (switch.Order i j) l p = let h = place_below (track_of_lem t R.runs) (length R.runs) i j (order_passed R i j p) in omega (arith, l.few_orders)
   setting_inside R (switch.Connection c) l p = let h = link_passed R c p in omega (arith, l.few_connections)
 
   -- giving a setting
-  pub setting_named : (R : Register K) (s : Switch) (v : ℕ) → Passed (setting-rows t R s v) → Passed (switch-rows t R s)
-  setting_named R s v p = passed_front (switch-rows t R s) (row 7 0 (1 < v) ∷ row 8 0 (setting-of t R s ≡ v) ∷ []) p
+  pub setting_named : (R : Register K) (s : Switch) (v : ℕ) → Passed (setting_rows t R s v) → Passed (switch_rows t R s)
+  setting_named R s v p = passed_front (switch_rows t R s) (row 7 0 (1 < v) ∷ row 8 0 (setting_of_lem t R s ≡ v) ∷ []) p
 
-  pub setting_flag : (R : Register K) (s : Switch) (v : ℕ) → Passed (setting-rows t R s v) → v ≤ 1
-  setting_flag R s v p = at_most 1 v (passed_back (switch-rows t R s) (row 7 0 (1 < v) ∷ row 8 0 (setting-of t R s ≡ v) ∷ []) p).0
+  pub setting_flag : (R : Register K) (s : Switch) (v : ℕ) → Passed (setting_rows t R s v) → v ≤ 1
+  setting_flag R s v p = at_most 1 v (passed_back (switch_rows t R s) (row 7 0 (1 < v) ∷ row 8 0 (setting_of_lem t R s ≡ v) ∷ []) p).0
 
-  pub setting_new : (R : Register K) (s : Switch) (v : ℕ) → Passed (setting-rows t R s v) → setting-of t R s ≡ v → ⊥
-  setting_new R s v p = (passed_back (switch-rows t R s) (row 7 0 (1 < v) ∷ row 8 0 (setting-of t R s ≡ v) ∷ []) p).1.0
+  pub setting_new : (R : Register K) (s : Switch) (v : ℕ) → Passed (setting_rows t R s v) → setting_of_lem t R s ≡ v → ⊥
+  setting_new R s v p = (passed_back (switch_rows t R s) (row 7 0 (1 < v) ∷ row 8 0 (setting_of_lem t R s ≡ v) ∷ []) p).1.0
 
   -- turning a switch
-  pub turning_set : (R : Register K) (s : Switch) (v : ℕ) → Passed (turning-rows t R s v) → Passed (setting-rows t R s v)
-  turning_set R s v p = passed_front (setting-rows t R s v) (row 9 0 (TooLate t R s) ∷ []) p
+  pub turning_set : (R : Register K) (s : Switch) (v : ℕ) → Passed (turning_rows t R s v) → Passed (setting_rows t R s v)
+  turning_set R s v p = passed_front (setting_rows t R s v) (row 9 0 (TooLate t R s) ∷ []) p
 
-  pub turning_timely : (R : Register K) (s : Switch) (v : ℕ) → Passed (turning-rows t R s v) → TooLate t R s → ⊥
-  turning_timely R s v p = (passed_back (setting-rows t R s v) (row 9 0 (TooLate t R s) ∷ []) p).0
+  pub turning_timely : (R : Register K) (s : Switch) (v : ℕ) → Passed (turning_rows t R s v) → TooLate t R s → ⊥
+  turning_timely R s v p = (passed_back (setting_rows t R s v) (row 9 0 (TooLate t R s) ∷ []) p).0
 
   -- events, reports and holds
-  pub event_passed : (R : Register K) (v : ℕ) → Passed (event-rows t R v) → v < 2 * length R.runs
+  pub event_passed : (R : Register K) (v : ℕ) → Passed (event_rows t R v) → v < 2 * length R.runs
   event_passed R v p = below (2 * length R.runs) v p.0
 
   pub record ReportPassed (R : Register K) (v : ℕ) (at : K) : Type 0 where
@@ -126,7 +126,7 @@ module _ {K : Type 0} (t : Time K) where
   fits None at n = n tt
   fits (Some d) at n = elim (cases_Bool (t.before d at)) [ inl e ↦ e | inr e ↦ absurd (n e) ]
 
-  pub report_passed : (R : Register K) (v : ℕ) (at : K) → Passed (report-rows t R v at) → ReportPassed R v at
+  pub report_passed : (R : Register K) (v : ℕ) (at : K) → Passed (report_rows t R v at) → ReportPassed R v at
   report_passed R v at p = record {
     known = below (2 * length R.runs) v p.0;
     sized = at_most 1000000 (t.size at) p.1.0;
@@ -140,7 +140,7 @@ module _ {K : Type 0} (t : Time K) where
     pub free : (run_at t R.runs r).hold ≡ None
     pub waiting : (run_at t R.runs r).departed ≡ None
 
-  pub hold_passed : (R : Register K) (r : ℕ) (until : K) → Passed (hold-rows t R r until) → HoldPassed R r until
+  pub hold_passed : (R : Register K) (r : ℕ) (until : K) → Passed (hold_rows t R r until) → HoldPassed R r until
   hold_passed R r until p = record {
     known = below (length R.runs) r p.0;
     sized = at_most 1000000 (t.size until) p.1.0;
@@ -153,7 +153,7 @@ module _ {K : Type 0} (t : Time K) where
     pub known : slip-run < length R.runs
     pub held : Given (run_at t R.runs slip-run).hold
 
-  pub release_passed : (R : Register K) (plan slip-plan slip-run : ℕ) → Passed (release-rows t R plan slip-plan slip-run) → ReleasePassed R plan slip-plan slip-run
+  pub release_passed : (R : Register K) (plan slip-plan slip-run : ℕ) → Passed (release_rows t R plan slip-plan slip-run) → ReleasePassed R plan slip-plan slip-run
   release_passed R plan slip-plan slip-run p = record {
     own = elim (cases_eq slip-plan plan) [ inl e ↦ e | inr e ↦ absurd (p.0 e) ];
     known = below (length R.runs) slip-run p.1.0;

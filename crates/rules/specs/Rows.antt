@@ -6,7 +6,7 @@ use Rattle.network.specs.Refusals.{Row, row}
 use Rattle.records.specs.declared.Track.{Track}
 use Rattle.records.specs.declared.Run.{Run}
 use Rattle.records.specs.declared.Connection.{Connection}
-use Rattle.records.specs.Records.{run_at, connection-at, track-of}
+use Rattle.records.specs.Records.{run_at, connection_at, track_of_lem}
 use Rattle.records.specs.Places.{total, count, place}
 use Rattle.records.specs.Register.{Register, Memory, register_of}
 use Rattle.records.specs.Stored.{Stored, Drafted, Shown}
@@ -38,8 +38,8 @@ module _ {K : Type 0} where
 
   module _ (t : Time K) where
     -- every call on a draft
-    abbrev pub draft-rows : Memory K → List Row
-    draft-rows m =
+    abbrev pub draft_rows : Memory K → List Row
+    draft_rows m =
         row 1 0 (RecordsListed m → ⊥)
         ∷ row 2 0 (Stored t m → ⊥)
         ∷ row 2 0 (Drafted t (register_of t m) → ⊥)
@@ -52,8 +52,8 @@ module _ {K : Type 0} where
       pub drafted : Drafted t (register_of t m)
 
     -- every call on an open plan that shows times
-    abbrev pub open-rows : Memory K → List K → List Row
-    open-rows m shown =
+    abbrev pub open_rows : Memory K → List K → List Row
+    open_rows m shown =
         row 1 0 (RecordsListed m → ⊥)
         ∷ row 1 0 (length shown ≢ 1024)
         ∷ row 2 0 (Stored t m → ⊥)
@@ -75,29 +75,29 @@ module _ {K : Type 0} where
     NoDuration d = (100000 < t.size d) ⊎ (t.before t.none d ≡ false)
 
     -- entering a track into a register
-    abbrev pub track-rows : Register K → Track K → List Row
-    track-rows R x =
+    abbrev pub track_rows : Register K → Track K → List Row
+    track_rows R x =
         row 5 0 (NoDuration x.headway ⊎ NoDuration x.meeting)
         ∷ row 6 0 (64 ≤ length R.tracks)
         ∷ row 7 0 (1000000 < x.penalty)
         ∷ []
 
     -- how many orders there are with one more run on track x
-    abbrev pub orders-with : Register K → ℕ → ℕ
-    orders-with R x = total (track-of t R.runs) (length R.runs) + count (track-of t R.runs) x (length R.runs)
+    abbrev pub orders_with : Register K → ℕ → ℕ
+    orders_with R x = total (track_of_lem t R.runs) (length R.runs) + count (track_of_lem t R.runs) x (length R.runs)
 
-    abbrev pub run-rows : Register K → Run K → List Row
-    run-rows R x =
+    abbrev pub run_rows : Register K → Run K → List Row
+    run_rows R x =
         row 3 x.track (length R.tracks ≤ x.track)
         ∷ row 3 (number_or_none_lem x.predecessor) (NotEarlier (length R.runs) x.predecessor)
         ∷ row 4 0 (Over x.departure ⊎ Over x.arrival)
         ∷ row 5 0 (NoDuration x.running ⊎ NoDuration x.dwell)
-        ∷ row 6 0 ((512 ≤ length R.runs) ⊎ (4096 < orders-with R x.track))
+        ∷ row 6 0 ((512 ≤ length R.runs) ⊎ (4096 < orders_with R x.track))
         ∷ row 7 0 ((1000 < x.weight) ⊎ (1 < x.direction))
         ∷ []
 
-    abbrev pub connection-rows : Register K → Connection K → List Row
-    connection-rows R x =
+    abbrev pub connection_rows : Register K → Connection K → List Row
+    connection_rows R x =
         row 3 x.feeder (length R.runs ≤ x.feeder)
         ∷ row 3 x.onward (length R.runs ≤ x.onward)
         ∷ row 3 x.onward (x.feeder ≡ x.onward)
@@ -107,28 +107,28 @@ module _ {K : Type 0} where
         ∷ []
 
     -- a switch that names no order or connection; of a pair that is bad as a pair the second number is told
-    abbrev pub switch-rows : Register K → Switch → List Row
-    switch-rows R (switch.Order i j) =
+    abbrev pub switch_rows : Register K → Switch → List Row
+    switch_rows R (switch.Order i j) =
         row 3 i (length R.runs ≤ i)
         ∷ row 3 j (length R.runs ≤ j)
         ∷ row 3 j (j ≤ i)
-        ∷ row 3 j (track-of t R.runs i ≢ track-of t R.runs j)
+        ∷ row 3 j (track_of_lem t R.runs i ≢ track_of_lem t R.runs j)
         ∷ []
-    switch-rows R (switch.Connection c) = row 3 c (length R.connections ≤ c) ∷ []
+    switch_rows R (switch.Connection c) = row 3 c (length R.connections ≤ c) ∷ []
 
     -- where the setting of a switch has its byte
-    abbrev pub setting-place : Register K → Switch → ℕ
-    setting-place R (switch.Order i j) = place (track-of t R.runs) i j
-    setting-place R (switch.Connection c) = 4096 + c
+    abbrev pub setting_place : Register K → Switch → ℕ
+    setting_place R (switch.Order i j) = place (track_of_lem t R.runs) i j
+    setting_place R (switch.Connection c) = 4096 + c
 
     -- the setting of a switch
-    abbrev pub setting-of : Register K → Switch → ℕ
-    setting-of R (switch.Order i j) = R.order i j
-    setting-of R (switch.Connection c) = R.link c
+    abbrev pub setting_of_lem : Register K → Switch → ℕ
+    setting_of_lem R (switch.Order i j) = R.order i j
+    setting_of_lem R (switch.Connection c) = R.link c
 
-    abbrev pub setting-rows : Register K → Switch → ℕ → List Row
-    setting-rows R s setting =
-        switch-rows R s ++ row 7 0 (1 < setting) ∷ row 8 0 (setting-of R s ≡ setting) ∷ []
+    abbrev pub setting_rows : Register K → Switch → ℕ → List Row
+    setting_rows R s setting =
+        switch_rows R s ++ row 7 0 (1 < setting) ∷ row 8 0 (setting_of_lem R s ≡ setting) ∷ []
 
     -- the departure of a run is reported
     abbrev pub Departed : Register K → ℕ → Type 0
@@ -137,27 +137,27 @@ module _ {K : Type 0} where
     -- what a switch changes has departed
     abbrev pub TooLate : Register K → Switch → Type 0
     TooLate R (switch.Order i j) = Departed R i ⊎ Departed R j
-    TooLate R (switch.Connection c) = Departed R (connection-at t R.connections c).onward
+    TooLate R (switch.Connection c) = Departed R (connection_at t R.connections c).onward
 
-    abbrev pub turning-rows : Register K → Switch → ℕ → List Row
-    turning-rows R s setting = setting-rows R s setting ++ row 9 0 (TooLate R s) ∷ []
+    abbrev pub turning_rows : Register K → Switch → ℕ → List Row
+    turning_rows R s setting = setting_rows R s setting ++ row 9 0 (TooLate R s) ∷ []
 
-    abbrev pub event-rows : Register K → ℕ → List Row
-    event-rows R v = row 3 v (2 * length R.runs ≤ v) ∷ []
+    abbrev pub event_rows : Register K → ℕ → List Row
+    event_rows R v = row 3 v (2 * length R.runs ≤ v) ∷ []
 
     -- A departure cannot be reported once its arrival is; an arrival only once its departure is, and not before it.
     abbrev pub Untimely : Run K → ℕ → K → Type 0
     Untimely x side at = ((side ≡ 0) × Given x.arrived) ⊎ ((side ≡ 1) × IfSome x.departed (λ d. t.before d at ≡ false))
 
-    abbrev pub report-rows : Register K → ℕ → K → List Row
-    report-rows R v at =
+    abbrev pub report_rows : Register K → ℕ → K → List Row
+    report_rows R v at =
         row 3 v (2 * length R.runs ≤ v)
         ∷ row 4 0 (Over at)
         ∷ row 10 0 (Untimely (run_at t R.runs (v / 2)) (v % 2) at)
         ∷ []
 
-    abbrev pub hold-rows : Register K → ℕ → K → List Row
-    hold-rows R r until =
+    abbrev pub hold_rows : Register K → ℕ → K → List Row
+    hold_rows R r until =
         row 3 r (length R.runs ≤ r)
         ∷ row 4 0 (Over until)
         ∷ row 8 0 (Given (run_at t R.runs r).hold)
@@ -165,8 +165,8 @@ module _ {K : Type 0} where
         ∷ []
 
     -- a slip of another plan, or of a run that is not held
-    abbrev pub release-rows : Register K → ℕ → ℕ → ℕ → List Row
-    release-rows R plan slip-plan slip-run =
+    abbrev pub release_rows : Register K → ℕ → ℕ → ℕ → List Row
+    release_rows R plan slip-plan slip-run =
         row 11 0 (slip-plan ≢ plan)
         ∷ row 11 0 (length R.runs ≤ slip-run)
         ∷ row 11 0 (Given (run_at t R.runs slip-run).hold → ⊥)

@@ -1,12 +1,12 @@
 //! What entering a record refuses.
 ghost use Rattle.std.specs.Prelude.{◌≡◌, ◌<◌, ◌≤◌, ◌⊎◌, length, Decides};
 ghost use Rattle.network.specs.Refusals.{Answers};
-ghost use Rattle.records.specs.Records.{track-of};
+ghost use Rattle.records.specs.Records.{track_of_lem};
 ghost use Rattle.records.specs.Places.{count};
 ghost use Rattle.records.specs.Register.{seen, all_of};
 ghost use Rattle.records.specs.Stored.{Limits};
 ghost use Rattle.rules.specs.Faults.{plan_number, plan_place};
-ghost use Rattle.rules.specs.Rows.{Over, NoDuration, track-rows, NotEarlier, number_or_none_lem, orders-with, run-rows, connection-rows};
+ghost use Rattle.rules.specs.Rows.{Over, NoDuration, track_rows, NotEarlier, number_or_none_lem, orders_with, run_rows, connection_rows};
 
 use crate::{CONNECTIONS, PlanFault, RUNS, TRACKS, over};
 use kinds::Kind;
@@ -35,7 +35,7 @@ fn no_durations<K: Kind>(a: K, b: K) -> bool
 
 /// What entering a track refuses.
 pub fn check_track<K: Kind>(v: View<K>, track: Track<K>) -> Result<(), PlanFault>
-    ensures { Answers plan_number plan_place (track-rows K.Kind.time (all_of K.Kind.time (seen v.entry)) track) result }
+    ensures { Answers plan_number plan_place (track_rows K.Kind.time (all_of K.Kind.time (seen v.entry)) track) result }
 {
     if no_durations(track.headway, track.meeting) {
         return Err(PlanFault::Duration);
@@ -76,7 +76,7 @@ fn times_over<K: Kind>(a: K, b: K) -> bool
 
 // How many of the runs are on the track.
 pub(crate) fn count_on<K: Kind>(runs: &[Run<K>], track: u16) -> usize
-    ensures { result ≡ count (track-of K.Kind.time runs.now) track (length runs.now) }
+    ensures { result ≡ count (track_of_lem K.Kind.time runs.now) track (length runs.now) }
 {
     let n = runs.len();
     let mut found = 0;
@@ -92,7 +92,7 @@ pub(crate) fn count_on<K: Kind>(runs: &[Run<K>], track: u16) -> usize
 // Whether one more run on the track passes the number of runs or of orders.
 fn too_many<K: Kind>(v: View<K>, track: u16) -> bool
     requires { Limits K.Kind.time (all_of K.Kind.time (seen v)) }
-    ensures { Decides result ((512 ≤ length v.entry.runs.now) ⊎ (4096 < orders-with K.Kind.time (all_of K.Kind.time (seen v.entry)) track)) }
+    ensures { Decides result ((512 ≤ length v.entry.runs.now) ⊎ (4096 < orders_with K.Kind.time (all_of K.Kind.time (seen v.entry)) track)) }
 {
     if v.runs.len() >= RUNS {
         return true;
@@ -110,7 +110,7 @@ fn out_of_range(weight: u16, direction: u8) -> bool
 /// What entering a run refuses, where what is entered keeps the limits.
 pub fn check_run<K: Kind>(v: View<K>, run: Run<K>) -> Result<(), PlanFault>
     requires { Limits K.Kind.time (all_of K.Kind.time (seen v)) }
-    ensures { Answers plan_number plan_place (run-rows K.Kind.time (all_of K.Kind.time (seen v.entry)) run) result }
+    ensures { Answers plan_number plan_place (run_rows K.Kind.time (all_of K.Kind.time (seen v.entry)) run) result }
 {
     let place = run.track;
     if place as usize >= v.tracks.len() {
@@ -138,7 +138,7 @@ pub fn check_run<K: Kind>(v: View<K>, run: Run<K>) -> Result<(), PlanFault>
 
 /// What entering a connection refuses.
 pub fn check_connection<K: Kind>(v: View<K>, connection: Connection<K>) -> Result<(), PlanFault>
-    ensures { Answers plan_number plan_place (connection-rows K.Kind.time (all_of K.Kind.time (seen v.entry)) connection) result }
+    ensures { Answers plan_number plan_place (connection_rows K.Kind.time (all_of K.Kind.time (seen v.entry)) connection) result }
 {
     let runs = v.runs.len();
     let feeder = connection.feeder;

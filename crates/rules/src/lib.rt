@@ -5,7 +5,7 @@ ghost use Rattle.std.specs.Prelude.{Decides, OnOk};
 ghost use Rattle.network.specs.Refusals.{Answers};
 ghost use Rattle.records.specs.Register.{seen};
 ghost use Rattle.rules.specs.Faults.{plan_number, plan_place};
-ghost use Rattle.rules.specs.Rows.{RecordsListed, draft-rows, SoundDraft, open-rows, SoundOpen, Over};
+ghost use Rattle.rules.specs.Rows.{RecordsListed, draft_rows, SoundDraft, open_rows, SoundOpen, Over};
 
 use kinds::Kind;
 use records::{View, check_drafted, check_shown, check_stored};
@@ -61,7 +61,7 @@ fn records_listed<K: Kind>(v: View<K>) -> bool
 
 /// What every call on a draft refuses first.
 pub fn check_draft<K: Kind>(v: View<K>) -> Result<(), PlanFault>
-    ensures rows { Answers plan_number plan_place (draft-rows K.Kind.time (seen v.entry)) result }
+    ensures rows { Answers plan_number plan_place (draft_rows K.Kind.time (seen v.entry)) result }
     ensures sound { OnOk result (SoundDraft K.Kind.time (seen v.entry)) }
 {
     if !records_listed(v) {
@@ -78,7 +78,7 @@ pub fn check_draft<K: Kind>(v: View<K>) -> Result<(), PlanFault>
 
 /// What every call on an open plan refuses first.
 pub fn check_open<K: Kind>(v: View<K>, shown: &[K]) -> Result<(), PlanFault>
-    ensures rows { Answers plan_number plan_place (open-rows K.Kind.time (seen v.entry) shown.now) result }
+    ensures rows { Answers plan_number plan_place (open_rows K.Kind.time (seen v.entry) shown.now) result }
     ensures sound { OnOk result (SoundOpen K.Kind.time (seen v.entry) shown.now) }
 {
     if !records_listed(v) {

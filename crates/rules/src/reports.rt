@@ -4,7 +4,7 @@ ghost use Rattle.network.specs.Refusals.{Answers};
 ghost use Rattle.records.specs.Records.{run_at};
 ghost use Rattle.records.specs.Register.{seen, all_of};
 ghost use Rattle.rules.specs.Faults.{plan_number, plan_place};
-ghost use Rattle.rules.specs.Rows.{Given, Departed, event-rows, Untimely, report-rows, hold-rows, release-rows};
+ghost use Rattle.rules.specs.Rows.{Given, Departed, event_rows, Untimely, report_rows, hold_rows, release_rows};
 
 use crate::{PlanFault, over};
 use kinds::Kind;
@@ -38,7 +38,7 @@ fn held<K: Kind>(v: View<K>, run: u16) -> bool
 
 /// What naming an event refuses.
 pub fn check_event<K: Kind>(v: View<K>, event: u16) -> Result<(), PlanFault>
-    ensures { Answers plan_number plan_place (event-rows K.Kind.time (all_of K.Kind.time (seen v.entry)) event) result }
+    ensures { Answers plan_number plan_place (event_rows K.Kind.time (all_of K.Kind.time (seen v.entry)) event) result }
 {
     let number = event as usize / 2;
     if number >= v.runs.len() {
@@ -71,7 +71,7 @@ fn untimely<K: Kind>(run: Run<K>, side: u16, at: K) -> bool
 
 /// What reporting an event refuses.
 pub fn check_report<K: Kind>(v: View<K>, event: u16, at: K) -> Result<(), PlanFault>
-    ensures { Answers plan_number plan_place (report-rows K.Kind.time (all_of K.Kind.time (seen v.entry)) event at) result }
+    ensures { Answers plan_number plan_place (report_rows K.Kind.time (all_of K.Kind.time (seen v.entry)) event at) result }
 {
     let run = event as usize / 2;
     if run >= v.runs.len() {
@@ -88,7 +88,7 @@ pub fn check_report<K: Kind>(v: View<K>, event: u16, at: K) -> Result<(), PlanFa
 
 /// What holding a run refuses.
 pub fn check_hold<K: Kind>(v: View<K>, run: u16, until: K) -> Result<(), PlanFault>
-    ensures { Answers plan_number plan_place (hold-rows K.Kind.time (all_of K.Kind.time (seen v.entry)) run until) result }
+    ensures { Answers plan_number plan_place (hold_rows K.Kind.time (all_of K.Kind.time (seen v.entry)) run until) result }
 {
     if run as usize >= v.runs.len() {
         return Err(PlanFault::Unknown { place: run });
@@ -112,7 +112,7 @@ pub fn check_release<K: Kind>(
     slip_plan: u32,
     slip_run: u16,
 ) -> Result<(), PlanFault>
-    ensures { Answers plan_number plan_place (release-rows K.Kind.time (all_of K.Kind.time (seen v.entry)) plan slip_plan slip_run) result }
+    ensures { Answers plan_number plan_place (release_rows K.Kind.time (all_of K.Kind.time (seen v.entry)) plan slip_plan slip_run) result }
 {
     if slip_plan != plan {
         return Err(PlanFault::Slip);

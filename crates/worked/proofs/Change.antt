@@ -6,8 +6,8 @@ use Rattle.network.specs.Reckoning.{at}
 use Rattle.network.specs.Refusals.{Passed}
 use Rattle.force.specs.Force.{running, connection}
 use Rattle.rules.specs.declared.switches.Switch.TheVariants.{Connection as Link}
-use Rattle.rules.specs.Rows.{turning-rows}
-use Rattle.registers.specs.Steps.{empty, enter-track, enter-run}
+use Rattle.rules.specs.Rows.{turning_rows}
+use Rattle.registers.specs.Steps.{empty, enter_track, enter_run}
 use Rattle.worked.specs.Words.{Shows}
 use Rattle.worked.specs.Change.{after, branch, two_branches, feeder, onward, change, kept, broken, ChangeFacts}
 use Rattle.worked.proofs.Rows.{taken_by}
@@ -32,17 +32,17 @@ unchanged =
     let w3 = start changes_time broken time 3 (omega arith) refl in
     shows_by changes_time broken changes_laws _ refl ((0, omega arith, w0), ((0, omega arith, w1), ((0, omega arith, w2), ((0, omega arith, w3), tt))))
 
-breaking_passed : Passed (turning-rows changes_time kept (Link 0) 1)
+breaking_passed : Passed (turning_rows changes_time kept (Link 0) 1)
 breaking_passed = ((λ h. omega arith), ((λ h. omega arith), ((λ h. omega arith), ((λ h. h), tt))))
 
 pub change_facts : ChangeFacts
 change_facts = record {
   first_track = track_by changes_time empty branch refl;
-  second_track = track_by changes_time (enter-track empty branch) branch refl;
+  second_track = track_by changes_time (enter_track empty branch) branch refl;
   first_run = run_by changes_time two_branches feeder refl;
-  second_run = run_by changes_time (enter-run two_branches feeder) onward refl;
-  connection = connection_by changes_time (enter-run (enter-run two_branches feeder) onward) change refl;
+  second_run = run_by changes_time (enter_run two_branches feeder) onward refl;
+  connection = connection_by changes_time (enter_run (enter_run two_branches feeder) onward) change refl;
   changed = changed;
-  taken = taken_by changes_time (turning-rows changes_time kept (Link 0) 1) broken breaking_passed unchanged;
+  taken = taken_by changes_time (turning_rows changes_time kept (Link 0) 1) broken breaking_passed unchanged;
   unchanged = unchanged;
 }

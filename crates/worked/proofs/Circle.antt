@@ -7,7 +7,7 @@ use Rattle.network.specs.declared.Arc.{Arc}
 use Rattle.network.specs.Network.{Ring}
 use Rattle.network.specs.Reckoning.{at}
 use Rattle.force.specs.Force.{running, departures}
-use Rattle.force.specs.Constraints.{arcs-in-force}
+use Rattle.force.specs.Constraints.{arcs_in_force}
 use Rattle.worked.specs.Words.{Shows, sec, seconds}
 use Rattle.worked.specs.Runs.{single_track}
 use Rattle.worked.specs.Circle.{train_301, train_303, train_305, convoy, circle, CircleFacts}
@@ -33,7 +33,7 @@ side_by_side =
 abbrev the_circuit : List (Arc Seconds)
 the_circuit = record { from = 4; to = 0; duration = sec 1 } ∷ record { from = 2; to = 4; duration = sec 1 } ∷ record { from = 0; to = 2; duration = sec 1 } ∷ []
 
-the_ring : Ring seconds_time (arcs-in-force seconds_time (circle 1)) the_circuit
+the_ring : Ring seconds_time (arcs_in_force seconds_time (circle 1)) the_circuit
 the_ring = record {
   event = 0;
   closed = (departures 2 0 (inr (ordered seconds_time (circle 1) 0 2 refl, refl)) (refl, refl), refl, (departures 1 2 (inl (ordered seconds_time (circle 1) 1 2 refl, refl)) (refl, refl), refl, (departures 0 1 (inl (ordered seconds_time (circle 1) 0 1 refl, refl)) (refl, refl), refl, refl)));

@@ -8,8 +8,8 @@ use Rattle.network.specs.Network.{Ring, Names, NoTable}
 use Rattle.network.specs.Reckoning.{at}
 use Rattle.network.specs.Refusals.{Passed}
 use Rattle.force.specs.Force.{running, dwell, departures, meeting}
-use Rattle.force.specs.Constraints.{arcs-in-force, in-force}
-use Rattle.rules.specs.Rows.{report-rows, turning-rows, hold-rows, release-rows}
+use Rattle.force.specs.Constraints.{arcs_in_force, in_force}
+use Rattle.rules.specs.Rows.{report_rows, turning_rows, hold_rows, release_rows}
 use Rattle.rules.specs.declared.switches.Switch.TheVariants.{Order}
 use Rattle.worked.specs.Words.{Shows, sec, seconds}
 use Rattle.worked.specs.Runs.{day}
@@ -31,12 +31,12 @@ late_shows =
     let w5 = on seconds_time late_day time 5 (sec 600) w4 (running 2 (omega arith) refl) refl in
     shows_by seconds_time late_day seconds_laws _ refl ((0, omega arith, w0), ((1, omega arith, w1), ((2, omega arith, w2), ((3, omega arith, w3), ((4, omega arith, w4), ((5, omega arith, w5), tt))))))
 
-late_passed : Passed (report-rows seconds_time day 0 (sec 300))
+late_passed : Passed (report_rows seconds_time day 0 (sec 300))
 late_passed = ((λ h. omega arith), ((λ h. omega arith), (neither (λ h. h.1) (λ h. omega (arith, h.0)), tt)))
 
 pub late : Late
 late = record {
-  taken = taken_by seconds_time (report-rows seconds_time day 0 (sec 300)) late_day late_passed late_shows;
+  taken = taken_by seconds_time (report_rows seconds_time day 0 (sec 300)) late_day late_passed late_shows;
   shows = late_shows;
   too_late = inr ((λ h. omega arith), inr ((λ h. omega arith), inr ((λ h. omega arith), inr ((λ h. h refl), inr ((λ h. omega arith), inr ((λ h. omega arith), inl (inl tt, refl, refl)))))));
 }
@@ -50,7 +50,7 @@ the_circuit =
     ∷ record { from = 2; to = 3; duration = sec 600 }
     ∷ []
 
-the_ring : Ring seconds_time (arcs-in-force seconds_time (turned day 1 2)) the_circuit
+the_ring : Ring seconds_time (arcs_in_force seconds_time (turned day 1 2)) the_circuit
 the_ring = record {
   event = 2;
   closed = (meeting 2 1 (inr (ordered seconds_time (turned day 1 2) 1 2 refl, refl)) ((λ e. omega arith), refl), refl, (running 2 (omega arith) refl, refl, (dwell 2 (omega arith) refl, refl, (running 1 (omega arith) refl, refl, refl))));
@@ -58,7 +58,7 @@ the_ring = record {
   after = refl;
 }
 
-abbrev the_names : Names seconds_time (arcs-in-force seconds_time (turned day 1 2)) (2 ∷ 3 ∷ 4 ∷ 5 ∷ [])
+abbrev the_names : Names seconds_time (arcs_in_force seconds_time (turned day 1 2)) (2 ∷ 3 ∷ 4 ∷ 5 ∷ [])
 the_names = record {
   circuit = the_circuit;
   ring = the_ring;
@@ -70,15 +70,15 @@ the_names = record {
   smallest = (omega arith, (omega arith, (omega arith, (omega arith, tt))));
 }
 
-ring_leaves_none : NoTable seconds_time (in-force seconds_time (turned day 1 2))
+ring_leaves_none : NoTable seconds_time (in_force seconds_time (turned day 1 2))
 ring_leaves_none = no_table_by seconds_time (turned day 1 2) seconds_laws refl refl the_circuit the_ring
 
-ring_passed : Passed (turning-rows seconds_time day (Order 1 2) 1)
+ring_passed : Passed (turning_rows seconds_time day (Order 1 2) 1)
 ring_passed = turning_by seconds_time day 1 2 refl refl (λ h. h) (λ h. h)
 
 pub ringed : Ringed
 ringed = record {
-  refused = ring_refuses seconds_time (turning-rows seconds_time day (Order 1 2) 1) (turned day 1 2) ring_passed ring_leaves_none;
+  refused = ring_refuses seconds_time (turning_rows seconds_time day (Order 1 2) 1) (turned day 1 2) ring_passed ring_leaves_none;
   passed = ring_passed;
   no_table = ring_leaves_none;
   named = the_names;
@@ -100,7 +100,7 @@ tried_shows =
 
 pub tried : Tried
 tried = record {
-  taken = taken_by seconds_time (turning-rows seconds_time day (Order 0 1) 1) (turned day 0 1) (turning_by seconds_time day 0 1 refl refl (λ h. h) (λ h. h)) tried_shows;
+  taken = taken_by seconds_time (turning_rows seconds_time day (Order 0 1) 1) (turned day 0 1) (turning_by seconds_time day 0 1 refl refl (λ h. h) (λ h. h)) tried_shows;
   shows = tried_shows;
 }
 
@@ -116,13 +116,13 @@ held_shows =
     let w5 = on seconds_time held_day time 5 (sec 600) w4 (running 2 (omega arith) refl) refl in
     shows_by seconds_time held_day seconds_laws _ refl ((0, omega arith, w0), ((0, omega arith, w1), ((0, omega arith, w2), ((1, omega arith, w3), ((2, omega arith, w4), ((3, omega arith, w5), tt))))))
 
-held_passed : Passed (hold-rows seconds_time day 1 (sec 700))
+held_passed : Passed (hold_rows seconds_time day 1 (sec 700))
 held_passed = ((λ h. omega arith), ((λ h. omega arith), ((λ h. h), ((λ h. h), tt))))
 
 pub held : Held
 held = record {
-  taken = taken_by seconds_time (hold-rows seconds_time day 1 (sec 700)) held_day held_passed held_shows;
+  taken = taken_by seconds_time (hold_rows seconds_time day 1 (sec 700)) held_day held_passed held_shows;
   shows = held_shows;
-  releases = λ plan. taken_by seconds_time (release-rows seconds_time held_day plan plan 1) day ((λ h. h refl), ((λ h. omega arith), ((λ h. h tt), tt))) day_shows;
+  releases = λ plan. taken_by seconds_time (release_rows seconds_time held_day plan plan 1) day ((λ h. h refl), ((λ h. omega arith), ((λ h. h tt), tt))) day_shows;
   again = refl;
 }

@@ -6,7 +6,7 @@ use Rattle.network.specs.declared.Arc.{Arc}
 use Rattle.records.specs.declared.Track.{Track}
 use Rattle.records.specs.declared.Run.{Run}
 use Rattle.records.specs.Register.{Register}
-use Rattle.force.specs.Force.{Joins, Departures, Arrivals, Meeting, Ahead, InForce, running, dwell, connection, departures, arrivals, meeting, run_in, track-in, track_under, connection-in}
+use Rattle.force.specs.Force.{Joins, Departures, Arrivals, Meeting, Ahead, InForce, running, dwell, connection, departures, arrivals, meeting, run_in, track_in, track_under, connection_in}
 
 -- the numbers below n all pass
 abbrev pub below : ℕ → (ℕ → Bool) → Bool
@@ -41,8 +41,8 @@ module _ {K : Type 0} (p : Arc K → Bool) where
   dwells r x None = true
   dwells r x (Some q) = joins x.departed (2 * q + 1) (2 * r) x.dwell
 
-  abbrev pub of-run : ℕ → Run K → Bool
-  of-run r x = joins x.arrived (2 * r) (2 * r + 1) x.running && dwells r x x.predecessor
+  abbrev pub of_run : ℕ → Run K → Bool
+  of_run r x = joins x.arrived (2 * r) (2 * r + 1) x.running && dwells r x x.predecessor
 
   dwells_pass : (r : ℕ) (x : Run K) (o : Option ℕ) (a : Arc K) → dwells r x o ≡ true → MatchOption o ⊥ (λ q. Joins x.departed (2 * q + 1) (2 * r) x.dwell a) → p a ≡ true
   dwells_pass r x None a h d = absurd d
@@ -70,38 +70,38 @@ module _ {K : Type 0} (p : Arc K → Bool) where
 
   module _ (t : Time K) (R : Register K) where
     -- run j and an earlier run i on its track, whichever is ahead
-    abbrev pub order-of : ℕ → ℕ → Bool
-    order-of j i =
-        cond (eqb (track-in t R i) (track-in t R j))
+    abbrev pub order_of : ℕ → ℕ → Bool
+    order_of j i =
+        cond (eqb (track_in t R i) (track_in t R j))
         (cond (eqb (R.order i j) 0) (follows (track_under t R j) i (run_in t R i) j (run_in t R j)) true
         && cond (eqb (R.order i j) 1) (follows (track_under t R i) j (run_in t R j) i (run_in t R i)) true)
         true
 
-    abbrev pub connection-of : ℕ → Bool
-    connection-of c = cond (eqb (R.link c) 0) (joins (run_in t R (connection-in t R c).onward).departed (2 * (connection-in t R c).feeder + 1) (2 * (connection-in t R c).onward) (connection-in t R c).time) true
+    abbrev pub connection_of_lem : ℕ → Bool
+    connection_of_lem c = cond (eqb (R.link c) 0) (joins (run_in t R (connection_in t R c).onward).departed (2 * (connection_in t R c).feeder + 1) (2 * (connection_in t R c).onward) (connection_in t R c).time) true
 
     -- every arc in force passes
-    abbrev pub every-run : Bool
-    every-run = below (length R.runs) (λ r. of-run r (run_in t R r))
+    abbrev pub every_run : Bool
+    every_run = below (length R.runs) (λ r. of_run r (run_in t R r))
 
-    abbrev pub every-order : Bool
-    every-order = below (length R.runs) (λ j. below j (order-of j))
+    abbrev pub every_order : Bool
+    every_order = below (length R.runs) (λ j. below j (order_of j))
 
-    abbrev pub every-connection : Bool
-    every-connection = below (length R.connections) connection-of
+    abbrev pub every_connection : Bool
+    every_connection = below (length R.connections) connection_of_lem
 
-    abbrev pub every-arc : Bool
-    every-arc = every-run && (every-order && every-connection)
+    abbrev pub every_arc : Bool
+    every_arc = every_run && (every_order && every_connection)
 
-    module _ (h : every-arc ≡ true) where
-      orders_and_connections : (every-order && every-connection) ≡ true
-      orders_and_connections = (and_parts every-run _ h).1
+    module _ (h : every_arc ≡ true) where
+      orders_and_connections : (every_order && every_connection) ≡ true
+      orders_and_connections = (and_parts every_run _ h).1
 
-      run_passes : (r : ℕ) → r < length R.runs → of-run r (run_in t R r) ≡ true
-      run_passes r l = below_at _ (λ r. of-run r (run_in t R r)) (and_parts every-run _ h).0 r l
+      run_passes : (r : ℕ) → r < length R.runs → of_run r (run_in t R r) ≡ true
+      run_passes r l = below_at _ (λ r. of_run r (run_in t R r)) (and_parts every_run _ h).0 r l
 
-      order_passes : (i j : ℕ) → i < j → j < length R.runs → order-of j i ≡ true
-      order_passes i j l m = below_at j (order-of j) (below_at _ (λ j. below j (order-of j)) (and_parts every-order every-connection orders_and_connections).0 j m) i l
+      order_passes : (i j : ℕ) → i < j → j < length R.runs → order_of j i ≡ true
+      order_passes i j l m = below_at j (order_of j) (below_at _ (λ j. below j (order_of j)) (and_parts every_order every_connection orders_and_connections).0 j m) i l
 
       ahead_passes : (u v : ℕ) → Ahead t R u v → follows (track_under t R v) u (run_in t R u) v (run_in t R v) ≡ true
       ahead_passes u v (inl a) =
@@ -114,7 +114,7 @@ module _ {K : Type 0} (p : Arc K → Bool) where
       pub passes : (a : Arc K) → InForce t R a → p a ≡ true
       passes a (running r l d) = joins_pass _ _ _ _ a (and_parts _ _ (run_passes r l)).0 d
       passes a (dwell r l d) = dwells_pass r (run_in t R r) (run_in t R r).predecessor a (and_parts _ _ (run_passes r l)).1 d
-      passes a (connection c l e d) = joins_pass _ _ _ _ a (asked _ _ (below_at _ connection-of (and_parts every-order every-connection orders_and_connections).1 c l) (eq-eqb _ _ e)) d
+      passes a (connection c l e d) = joins_pass _ _ _ _ a (asked _ _ (below_at _ connection_of_lem (and_parts every_order every_connection orders_and_connections).1 c l) (eq-eqb _ _ e)) d
       passes a (departures u v b d) = departures_pass (track_under t R v) u (run_in t R u) v (run_in t R v) (ahead_passes u v b) a d
       passes a (arrivals u v b d) = arrivals_pass (track_under t R v) u (run_in t R u) v (run_in t R v) (ahead_passes u v b) a d
       passes a (meeting u v b d) = meeting_pass (track_under t R v) u (run_in t R u) v (run_in t R v) (ahead_passes u v b) a d

@@ -8,8 +8,8 @@ use Rattle.records.specs.declared.Run.{Run}
 use Rattle.records.specs.declared.Connection.{Connection}
 use Rattle.records.specs.Register.{Register}
 use Rattle.rules.specs.declared.switches.Switch.TheVariants.{Connection as Link}
-use Rattle.rules.specs.Rows.{track-rows, run-rows, connection-rows, turning-rows}
-use Rattle.registers.specs.Steps.{empty, enter-track, enter-run, enter-connection, set-switch}
+use Rattle.rules.specs.Rows.{track_rows, run_rows, connection_rows, turning_rows}
+use Rattle.registers.specs.Steps.{empty, enter_track, enter_run, enter_connection, set_switch}
 use Rattle.worked.specs.Words.{Shows, Taken}
 
 -- so many seconds and so many changes
@@ -37,7 +37,7 @@ branch_run train track departure arrival = record {
 }
 
 abbrev pub two_branches : Register Changes
-two_branches = enter-track (enter-track empty branch) branch
+two_branches = enter_track (enter_track empty branch) branch
 
 -- the feeder, run 0, arrives at (900, 0); the onward run, run 1 on the other track, is to depart at (960, 0)
 abbrev pub feeder : Run Changes
@@ -51,20 +51,20 @@ abbrev pub change : Connection Changes
 change = record { feeder = 0; onward = 1; penalty = 500; time = after 60 1 }
 
 abbrev pub kept : Register Changes
-kept = enter-connection (enter-run (enter-run two_branches feeder) onward) change
+kept = enter_connection (enter_run (enter_run two_branches feeder) onward) change
 
 abbrev pub broken : Register Changes
-broken = set-switch kept (Link 0) 1
+broken = set_switch kept (Link 0) 1
 
 pub record ChangeFacts : Type 0 where
   -- no row refuses the records
-  pub first_track : Passed (track-rows changes_time empty branch)
-  pub second_track : Passed (track-rows changes_time (enter-track empty branch) branch)
-  pub first_run : Passed (run-rows changes_time two_branches feeder)
-  pub second_run : Passed (run-rows changes_time (enter-run two_branches feeder) onward)
-  pub connection : Passed (connection-rows changes_time (enter-run (enter-run two_branches feeder) onward) change)
+  pub first_track : Passed (track_rows changes_time empty branch)
+  pub second_track : Passed (track_rows changes_time (enter_track empty branch) branch)
+  pub first_run : Passed (run_rows changes_time two_branches feeder)
+  pub second_run : Passed (run_rows changes_time (enter_run two_branches feeder) onward)
+  pub connection : Passed (connection_rows changes_time (enter_run (enter_run two_branches feeder) onward) change)
   -- kept, the onward departure is at (960, 1): on time, with one change behind it
   pub changed : Shows changes_time kept (after 300 0 ∷ after 900 0 ∷ after 960 1 ∷ after 1560 1 ∷ []) 0
   -- the connection may be broken; then it is at (960, 0)
-  pub taken : Taken changes_time (turning-rows changes_time kept (Link 0) 1) broken
+  pub taken : Taken changes_time (turning_rows changes_time kept (Link 0) 1) broken
   pub unchanged : Shows changes_time broken (after 300 0 ∷ after 900 0 ∷ after 960 0 ∷ after 1560 0 ∷ []) 500

@@ -6,8 +6,8 @@ use Rattle.network.specs.Refusals.{Passed}
 use Rattle.records.specs.declared.Run.{Run}
 use Rattle.records.specs.Register.{Register}
 use Rattle.rules.specs.declared.switches.Switch.TheVariants.{Order}
-use Rattle.rules.specs.Rows.{setting-rows}
-use Rattle.registers.specs.Steps.{set-switch}
+use Rattle.rules.specs.Rows.{setting_rows}
+use Rattle.registers.specs.Steps.{set_switch}
 use Rattle.worked.specs.Words.{Shows, seconds, Taken, Refused}
 use Rattle.worked.specs.Runs.{single_track, a_run, three_runs, Entered}
 
@@ -26,13 +26,13 @@ convoy headway = three_runs (single_track headway) train_301 train_303 train_305
 
 -- run 0 ahead of run 1, run 1 ahead of run 2, and run 2 ahead of run 0
 abbrev pub circle : ℕ → Register Seconds
-circle headway = set-switch (convoy headway) (Order 0 2) 1
+circle headway = set_switch (convoy headway) (Order 0 2) 1
 
 pub record CircleFacts : Type 0 where
   -- no row refuses the records with headway 0 or 1, or the setting of the order
   pub entered_0 : Entered (single_track 0) train_301 train_303 train_305
   pub entered_1 : Entered (single_track 1) train_301 train_303 train_305
-  pub set : (headway : ℕ) → Passed (setting-rows seconds_time (convoy headway) (Order 0 2) 1)
+  pub set : (headway : ℕ) → Passed (setting_rows seconds_time (convoy headway) (Order 0 2) 1)
   -- with headway 0 the waits round the circle total nothing, which is no ring: the three run side by side, and the plan opens
   pub side_by_side : Shows seconds_time (circle 0) (seconds (120 ∷ 720 ∷ 120 ∷ 720 ∷ 120 ∷ 720 ∷ [])) 480
   pub opens : Taken seconds_time [] (circle 0)

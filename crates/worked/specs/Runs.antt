@@ -6,8 +6,8 @@ use Rattle.network.specs.Refusals.{Passed}
 use Rattle.records.specs.declared.Track.{Track}
 use Rattle.records.specs.declared.Run.{Run}
 use Rattle.records.specs.Register.{Register}
-use Rattle.rules.specs.Rows.{track-rows, run-rows}
-use Rattle.registers.specs.Steps.{empty, enter-track, enter-run}
+use Rattle.rules.specs.Rows.{track_rows, run_rows}
+use Rattle.registers.specs.Steps.{empty, enter_track, enter_run}
 use Rattle.worked.specs.Words.{sec}
 
 -- meeting 60, and 300 for a turned order
@@ -44,14 +44,14 @@ train_103 = a_run 103 0 (Some 1) 60 1320 1920
 -- Three runs on one track, entered one after the other: runs 0, 1 and 2, in each order the earlier run ahead. Run r has the events
 -- 2 r, its departure, and 2 r + 1, its arrival.
 abbrev pub three_runs : Track Seconds → Run Seconds → Run Seconds → Run Seconds → Register Seconds
-three_runs line one two three = enter-run (enter-run (enter-run (enter-track empty line) one) two) three
+three_runs line one two three = enter_run (enter_run (enter_run (enter_track empty line) one) two) three
 
 -- no row refuses the track or one of the runs
 pub record Entered (line : Track Seconds) (one two three : Run Seconds) : Type 0 where
-  pub track : Passed (track-rows seconds_time empty line)
-  pub first : Passed (run-rows seconds_time (enter-track empty line) one)
-  pub second : Passed (run-rows seconds_time (enter-run (enter-track empty line) one) two)
-  pub third : Passed (run-rows seconds_time (enter-run (enter-run (enter-track empty line) one) two) three)
+  pub track : Passed (track_rows seconds_time empty line)
+  pub first : Passed (run_rows seconds_time (enter_track empty line) one)
+  pub second : Passed (run_rows seconds_time (enter_run (enter_track empty line) one) two)
+  pub third : Passed (run_rows seconds_time (enter_run (enter_run (enter_track empty line) one) two) three)
 
 -- the day as it is entered, with headway 180
 abbrev pub day : Register Seconds

@@ -3,7 +3,7 @@ use Rattle.std.proofs.lemmas.List.{length-take-le}
 use Rattle.network.specs.Reckoning.{at}
 use Rattle.records.specs.Register.{Memory, all_of}
 use Rattle.records.specs.Stored.{Limits, Shown}
-use Rattle.cost.specs.Cost.{delay-cost}
+use Rattle.cost.specs.Cost.{delay_cost_lem}
 use Rattle.cost.proofs.delay_cost.Goals as goal
 
 pub cost-of-requires : goal.cost-of-requires
@@ -23,5 +23,5 @@ cost-of-requires g c =
 pub returns : goal.returns
 returns g c =
     let t = g.K.Kind.time in
-    let P : Memory g.row.K.Denot → Type 0 = λ m. c.cost-of.result ≡ delay-cost t (all_of t m) (at t c.args.times.now) in
+    let P : Memory g.row.K.Denot → Type 0 = λ m. c.cost-of.result ≡ delay_cost_lem t (all_of t m) (at t c.args.times.now) in
     subst P c.entered.ensures c.cost-of.ensures

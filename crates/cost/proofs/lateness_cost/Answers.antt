@@ -1,7 +1,7 @@
 use Rattle.std.proofs.Common.{◌≡◌, ℕ, ◌*◌, length, refl, ap, ◌∙◌, arith}
 use Rattle.network.specs.Reckoning.{at}
 use Rattle.records.specs.Register.{seen, all_of}
-use Rattle.cost.specs.Cost.{sum_below, late-cost}
+use Rattle.cost.specs.Cost.{sum_below, late_cost_lem}
 use Rattle.cost.proofs.Sums.{sum_more}
 use Rattle.cost.proofs.Parts.{late_is, run_small, time_small}
 use Rattle.cost.proofs.lateness_cost.Goals as goal
@@ -25,7 +25,7 @@ loop-r-preserved g c =
     let t = g.K.Kind.time in
     let R = all_of t (seen c.args.v) in
     let time = at t c.args.times.now in
-    let more = sum_more (late-cost t R time) c.loop-r.r in
+    let more = sum_more (late_cost_lem t R time) c.loop-r.r in
     let one = late_is t R time c.loop-r.r c.run-of.result c.time-of.result c.late-cost-sum.result c.run-of.ensures c.time-of.ensures c.late-cost-sum.ensures.cost in
     (omega (arith, c.loop-r.invariant.0), omega (arith, c.loop-r.invariant.1, c.late-cost-sum.ensures.few))
 
@@ -34,6 +34,6 @@ returns g c =
     let t = g.K.Kind.time in
     let e : c.loop-r.r ≡ length c.args.v.runs.now = omega arith in
     record {
-      cost = c.loop-r.invariant.0 ∙ ap (λ (n : ℕ). sum_below n (late-cost t (all_of t (seen c.args.v)) (at t c.args.times.now))) e;
+      cost = c.loop-r.invariant.0 ∙ ap (λ (n : ℕ). sum_below n (late_cost_lem t (all_of t (seen c.args.v)) (at t c.args.times.now))) e;
       few = omega (arith, c.loop-r.invariant.1, c.requires.limits.0.few_runs);
     }

@@ -2,8 +2,8 @@ use Rattle.std.proofs.Common.{◌≡◌, ℕ, ◌+◌, ◌-◌, ◌<◌, length,
 use Rattle.records.specs.Places.{place}
 use Rattle.records.proofs.Counts.{previous_of, laid_place}
 use Rattle.records.specs.Register.{seen, all_of}
-use Rattle.force.specs.Force.{track-in}
-use Rattle.cost.specs.Cost.{sum_below, turn-cost}
+use Rattle.force.specs.Force.{track_in}
+use Rattle.cost.specs.Cost.{sum_below, turn_cost}
 use Rattle.cost.proofs.Parts.{turn_is, penalty_is, penalty_small}
 use Rattle.cost.proofs.Turned.{turned_start, turned_back}
 use Rattle.cost.proofs.turned_of.Goals as goal
@@ -22,7 +22,7 @@ loop-past-init g c =
 
 pub bounds-v-base : goal.bounds-v-base
 bounds-v-base g c =
-    let f = track-in g.K.Kind.time (all_of g.K.Kind.time (seen c.args.v)) in
+    let f = track_in g.K.Kind.time (all_of g.K.Kind.time (seen c.args.v)) in
     let h = laid_place f (length c.args.v.runs.now) (c.loop-past.past - 1) c.args.j _ _ _ c.requires.laid c.requires.inside (omega (arith, c.loop-past.invariant.1, c.loop-past-test.true)) (c.loop-past.invariant.2 c.loop-past-test.true) in
     omega (arith, h.1, c.requires.limits.0.few_orders, c.requires.limits.1)
 
@@ -38,7 +38,7 @@ pub loop-past-preserved : goal.loop-past-preserved
 loop-past-preserved g c =
     let t = g.K.Kind.time in
     let R = all_of t (seen c.args.v) in
-    let f = track-in t R in
+    let f = track_in t R in
     let j = c.args.j in
     let past = c.loop-past.past in
     let i = past - 1 in
@@ -69,5 +69,5 @@ pub returns : goal.returns
 returns g c =
     let t = g.K.Kind.time in
     let e : c.loop-past.past ≡ 0 = omega arith in
-    let none = ap (λ (n : ℕ). sum_below n (turn-cost t (all_of t (seen c.args.v)) c.args.j)) e in
+    let none = ap (λ (n : ℕ). sum_below n (turn_cost t (all_of t (seen c.args.v)) c.args.j)) e in
     record { cost = omega (arith, c.loop-past.invariant.0); few = omega (arith, c.loop-past.invariant.3, c.requires.inside, c.requires.limits.0.few_runs) }

@@ -2,7 +2,7 @@ use Rattle.std.proofs.Common.{◌≡◌, ℕ, min, List, length, take, Ok, Err, 
 use Rattle.network.specs.declared.Arc.{Arc}
 use Rattle.network.specs.Refusals.{Answers}
 use Rattle.network.specs.Faults.{network_number, network_place}
-use Rattle.network.specs.Reckoning.{lengths, length_rows, network-rows}
+use Rattle.network.specs.Reckoning.{lengths, length_rows, network_rows}
 use Rattle.network.proofs.Refusals.{answers_more}
 use Rattle.network.proofs.Checks.{take_min, listed_lengths}
 use Rattle.network.proofs.check.Goals as goal
@@ -15,6 +15,6 @@ returns g c =
     let long = listed_lengths _ passed in
     let floors-is : c.split-at.result.0.now ≡ take a.events a.floors.now = c.split-at.ensures.front ∙ ap (λ k. take k a.floors.now) c.min.ensures ∙ take_min a.events 1024 a.floors.now long.0 in
     let arcs-is : c.split-at-2.result.0.now ≡ take a.arc_count a.arcs.now = c.split-at-2.ensures.front ∙ ap (λ k. take k a.arcs.now) c.min-2.ensures ∙ take_min a.arc_count 9728 a.arcs.now long.1 in
-    let P : List g.row.K.Denot → Type 0 = λ fs. Answers network_number network_place (network-rows t a.events a.arc_count fs c.split-at-2.result.0.now) c.check-network.result in
-    let Q : List (Arc g.row.K.Denot) → Type 0 = λ as_is. Answers network_number network_place (network-rows t a.events a.arc_count (take a.events a.floors.now) as_is) c.check-network.result in
-    answers_more network_number network_place (length_rows (lengths (length a.floors.now) (length a.arcs.now) a.times a.ring a.tables a.marks)) (network-rows t a.events a.arc_count (take a.events a.floors.now) (take a.arc_count a.arcs.now)) c.check-network.result passed (subst Q arcs-is (subst P floors-is c.check-network.ensures))
+    let P : List g.row.K.Denot → Type 0 = λ fs. Answers network_number network_place (network_rows t a.events a.arc_count fs c.split-at-2.result.0.now) c.check-network.result in
+    let Q : List (Arc g.row.K.Denot) → Type 0 = λ as_is. Answers network_number network_place (network_rows t a.events a.arc_count (take a.events a.floors.now) as_is) c.check-network.result in
+    answers_more network_number network_place (length_rows (lengths (length a.floors.now) (length a.arcs.now) a.times a.ring a.tables a.marks)) (network_rows t a.events a.arc_count (take a.events a.floors.now) (take a.arc_count a.arcs.now)) c.check-network.result passed (subst Q arcs-is (subst P floors-is c.check-network.ensures))

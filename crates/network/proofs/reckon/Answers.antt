@@ -5,7 +5,7 @@ use Rattle.std.proofs.lemmas.Result.{err_from_is_err_and}
 use Rattle.network.specs.declared.Arc.{Arc}
 use Rattle.network.specs.Network.{Least, Names, NoTable, HasRing}
 use Rattle.network.specs.Refusals.{row, Passed}
-use Rattle.network.specs.Reckoning.{at, placed, network-of, Handed, handed, first_rows, ring-rows}
+use Rattle.network.specs.Reckoning.{at, placed, network_of, Handed, handed, first_rows, ring_rows}
 use Rattle.network.specs.Rounds.{Sound, Sized}
 use Rattle.network.proofs.Refusals.{first_front, first_not_passed, passed_more, first_more}
 use Rattle.network.proofs.Checks.{Checked, checked, not_ring}
@@ -21,7 +21,7 @@ returns-in-err-check g c =
     let p = err_from_is_err_and c.from-residual.result c.from-residual.ensures.1 in
     let first = c.in-err-check.ensures in
     rw (p.1, p.2) (record {
-      answer = first_front (first_rows t h) (ring-rows t (take a.arc_count a.arcs.now)) _ _ first;
+      answer = first_front (first_rows t h) (ring_rows t (take a.arc_count a.arcs.now)) _ _ first;
       times = refl;
       ring = not_ring t h _ _ _ first;
       exactly = λ passed. absurd (first_not_passed (first_rows t h) _ _ first passed);
@@ -82,17 +82,17 @@ returns-in-None g c =
     let few-times = k.times_long in
     let solved = c.in-None.ensures in
     let table = c.solve.new.times in
-    let P : List g.row.K.Denot → Type 0 = λ fs. Least t (network-of t fs c.split-at-2.result.0.now) (at t table) in
-    let Q : List (Arc g.row.K.Denot) → Type 0 = λ xs. Least t (network-of t floors xs) (at t table) in
+    let P : List g.row.K.Denot → Type 0 = λ fs. Least t (network_of t fs c.split-at-2.result.0.now) (at t table) in
+    let Q : List (Arc g.row.K.Denot) → Type 0 = λ xs. Least t (network_of t floors xs) (at t table) in
     let R : List (Arc g.row.K.Denot) → Type 0 = λ xs. HasRing t (placed t xs) → ⊥ in
-    let S : List g.row.K.Denot → Type 0 = λ times. Least t (network-of t floors arcs) (at t times) in
-    let least : Least t (network-of t floors arcs) (at t table) = subst Q c.split-at-2.ensures.front (subst P c.split-at.ensures.front solved.0) in
+    let S : List g.row.K.Denot → Type 0 = λ times. Least t (network_of t floors arcs) (at t times) in
+    let least : Least t (network_of t floors arcs) (at t table) = subst Q c.split-at-2.ensures.front (subst P c.split-at.ensures.front solved.0) in
     let quiet : HasRing t (placed t arcs) → ⊥ = subst R c.split-at-2.ensures.front solved.1 in
     let copied = c.copy-from-slice.ensures.after in
     let long : length c.copy-from-slice.new.self ≡ n = (let e : n - 0 ≡ n = omega arith in c.copy-from-slice.ensures.len ∙ ap (λ i. length (take i a.times.now)) e ∙ length-take-le n a.times.now (omega arith)) in
     let front = take-put_mid 0 (n - 0) a.times.now c.copy-from-slice.new.self n (omega arith) (omega arith) in
     record {
-      answer = passed_more (first_rows t h) (ring-rows t arcs) passed (quiet, tt);
+      answer = passed_more (first_rows t h) (ring_rows t arcs) passed (quiet, tt);
       times = (subst S (sym (front ∙ copied)) least, drop-put_mid 0 (n - 0) a.times.now c.copy-from-slice.new.self n (omega arith) (omega arith) (omega arith));
       ring = solved.2;
       exactly = λ _. ((λ ring. absurd (quiet ring)), (λ no_table. absurd (no_table (at t table) least.table least.meets)));
@@ -111,14 +111,14 @@ returns-in-Some g c =
     let solved = c.in-Some.ensures in
     let es = take c.in-Some.count c.solve.new.ring in
     let P : List (Arc g.row.K.Denot) → Type 0 = λ xs. Names t (placed t xs) es in
-    let Q : List g.row.K.Denot → Type 0 = λ fs. NoTable t (network-of t fs c.split-at-2.result.0.now) in
-    let R : List (Arc g.row.K.Denot) → Type 0 = λ xs. NoTable t (network-of t floors xs) in
+    let Q : List g.row.K.Denot → Type 0 = λ fs. NoTable t (network_of t fs c.split-at-2.result.0.now) in
+    let R : List (Arc g.row.K.Denot) → Type 0 = λ xs. NoTable t (network_of t floors xs) in
     let names : Names t (placed t arcs) es = subst P c.split-at-2.ensures.front solved.0 in
-    let none : NoTable t (network-of t floors arcs) = subst R c.split-at-2.ensures.front (subst Q c.split-at.ensures.front solved.1) in
+    let none : NoTable t (network_of t floors arcs) = subst R c.split-at-2.ensures.front (subst Q c.split-at.ensures.front solved.1) in
     let ring : HasRing t (placed t arcs) = (names.circuit, names.ring) in
     let long : length c.split-at.result.0.now ≡ n = ap length c.split-at.ensures.front ∙ k.events in
     record {
-      answer = first_more (first_rows t h) (ring-rows t arcs) 12 0 passed (inl (ring, refl, refl));
+      answer = first_more (first_rows t h) (ring_rows t arcs) 12 0 passed (inl (ring, refl, refl));
       times = refl;
       ring = (names, solved.2, omega (arith, solved.3));
       exactly = λ _. ((λ _. none), (λ _. ring));

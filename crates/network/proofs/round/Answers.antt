@@ -1,7 +1,7 @@
 use Rattle.std.proofs.Common.{◌≡◌, ℕ, ◌+◌, ◌<◌, ◌≤◌, length, get_or, sym, refl, ap, ◌∙◌, subst, arith, rules}
 use Rattle.std.proofs.lemmas.List.{get_or_read}
 use Rattle.network.specs.declared.Arc.{Arc}
-use Rattle.network.specs.Reckoning.{at, arc-at}
+use Rattle.network.specs.Reckoning.{at, arc_at}
 use Rattle.network.proofs.Rounds.{arc_is, arc_starts, arc_ends, arc_fits, brings, none_not, round_keeps, round_takes}
 use Rattle.network.proofs.round.Goals as goal
 use Rattle.network.proofs.round.Goals.{then-not-compare, else-not-compare, In-Some}
@@ -37,7 +37,7 @@ loop-i-preserved g c =
     let i = c.loop-i.i in
     let laws = g.met.K.Kind.laws in
     let turn = c.loop-i-test.true in
-    let end : c.index-arcs-i.result.to ≡ (arc-at g.K.Kind.time c.args.arcs.now i).to = ap (λ a. a.to) (arc_is old c.requires.sound turn c.index-arcs-i.is) in
+    let end : c.index-arcs-i.result.to ≡ (arc_at g.K.Kind.time c.args.arcs.now i).to = ap (λ a. a.to) (arc_is old c.requires.sound turn c.index-arcs-i.is) in
     let inside = arc_ends old c.requires.sound turn c.index-arcs-i.is in
     let in-new : c.index-arcs-i.result.to < length c.loop-i.new = omega arith in
     let in-from : c.index-arcs-i.result.to < length c.loop-i.from = omega arith in

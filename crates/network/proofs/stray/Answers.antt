@@ -1,7 +1,7 @@
 use Rattle.std.proofs.Common.{◌≡◌, ℕ, ◌<◌, ◌≤◌, sym, refl, ap, ◌∙◌, inl, inr, arith, below_more}
 use Rattle.std.proofs.lemmas.List.{get_or_read}
 use Rattle.network.specs.declared.Arc.{Arc}
-use Rattle.network.specs.Reckoning.{arc-at, Stray}
+use Rattle.network.specs.Reckoning.{arc_at, Stray}
 use Rattle.network.proofs.Strays.{some_at, some_none, stray_from, stray_to}
 use Rattle.network.proofs.stray.Given as given
 use Rattle.network.proofs.stray.Goals as goal
@@ -13,9 +13,9 @@ returns-then-arc-events g c =
     let arcs = c.args.arcs.now in
     let i = c.loop-arc.arc-index in
     let d : Arc g.row.K.Denot = record { from = 0; to = 0; duration = t.none } in
-    let read : c.arc-item.result ≡ arc-at t arcs i = get_or_read _ _ _ c.loop-arc-test.true c.arc-item.is _ in
+    let read : c.arc-item.result ≡ arc_at t arcs i = get_or_read _ _ _ c.loop-arc-test.true c.arc-item.is _ in
     let start = ap (λ a. a.from) read in
-    let out : n ≤ (arc-at t arcs i).from = omega (arith, c.if-arc-events.true) in
+    let out : n ≤ (arc_at t arcs i).from = omega (arith, c.if-arc-events.true) in
     (some_at (Stray n) d arcs i c.loop-arc-test.true (inl out), start ∙ sym (stray_from n d arcs i c.loop-arc.invariant c.loop-arc-test.true out))
 
 pub returns-then-arc-events-2 : goal.returns-then-arc-events-2
@@ -25,11 +25,11 @@ returns-then-arc-events-2 g c =
     let arcs = c.args.arcs.now in
     let i = c.loop-arc.arc-index in
     let d : Arc g.row.K.Denot = record { from = 0; to = 0; duration = t.none } in
-    let read : c.arc-item.result ≡ arc-at t arcs i = get_or_read _ _ _ c.loop-arc-test.true c.arc-item.is _ in
+    let read : c.arc-item.result ≡ arc_at t arcs i = get_or_read _ _ _ c.loop-arc-test.true c.arc-item.is _ in
     let start = ap (λ a. a.from) read in
     let end = ap (λ a. a.to) read in
-    let inside : (arc-at t arcs i).from < n = omega (arith, c.if-arc-events.false) in
-    let out : n ≤ (arc-at t arcs i).to = omega (arith, c.if-arc-events-2.true) in
+    let inside : (arc_at t arcs i).from < n = omega (arith, c.if-arc-events.false) in
+    let out : n ≤ (arc_at t arcs i).to = omega (arith, c.if-arc-events-2.true) in
     (some_at (Stray n) d arcs i c.loop-arc-test.true (inr out), end ∙ sym (stray_to n d arcs i c.loop-arc.invariant c.loop-arc-test.true inside out))
 
 pub loop-arc-preserved : goal.loop-arc-preserved
@@ -38,7 +38,7 @@ loop-arc-preserved g c =
     let n = c.args.events in
     let arcs = c.args.arcs.now in
     let i = c.loop-arc.arc-index in
-    let read : c.arc-item.result ≡ arc-at t arcs i = get_or_read _ _ _ c.loop-arc-test.true c.arc-item.is _ in
+    let read : c.arc-item.result ≡ arc_at t arcs i = get_or_read _ _ _ c.loop-arc-test.true c.arc-item.is _ in
     let start = ap (λ a. a.from) read in
     let end = ap (λ a. a.to) read in
     below_more _ _ c.loop-arc.invariant (λ s. elim s [ inl h ↦ omega (arith, c.if-arc-events.false) | inr h ↦ omega (arith, c.if-arc-events-2.false) ])

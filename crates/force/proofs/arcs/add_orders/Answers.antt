@@ -3,7 +3,7 @@ use Rattle.records.specs.Places.{total}
 use Rattle.records.proofs.Counts.{total_more, total_mono}
 use Rattle.records.specs.Register.{seen, all_of}
 use Rattle.force.specs.Added.{Added, Among, OrderOf, OrderArcs}
-use Rattle.force.specs.Force.{track-in}
+use Rattle.force.specs.Force.{track_in}
 use Rattle.force.proofs.Adds.{added_start, added_more}
 use Rattle.force.proofs.arcs.add_orders.Goals as goal
 
@@ -14,7 +14,7 @@ loop-j-init g c =
 
 pub add-orders-of-m-requires : goal.add-orders-of-m-requires
 add-orders-of-m-requires g c =
-    let f = track-in g.K.Kind.time (all_of g.K.Kind.time (seen c.args.v)) in
+    let f = track_in g.K.Kind.time (all_of g.K.Kind.time (seen c.args.v)) in
     let more = total_more f c.loop-j.j in
     let mono = total_mono f (c.loop-j.j + 1) (length c.args.v.runs.now) (omega arith) in
     record { limits = c.requires.limits; long = (omega arith, (omega arith, (omega arith, omega arith))); laid = c.requires.laid; inside = c.loop-j-test.true; room = omega (arith, c.requires.room, c.loop-j.invariant.1) }
@@ -22,7 +22,7 @@ add-orders-of-m-requires g c =
 pub loop-j-preserved : goal.loop-j-preserved
 loop-j-preserved g c =
     let t = g.K.Kind.time in
-    let more = total_more (track-in t (all_of t (seen c.args.v))) c.loop-j.j in (
+    let more = total_more (track_in t (all_of t (seen c.args.v))) c.loop-j.j in (
       added_more t (λ j. Among (OrderOf t (all_of t (seen c.args.v)) j) 0 j) _ _ _ 0 c.loop-j.j _ _ _ (omega arith) c.loop-j.invariant.0 c.add-orders-of-m.ensures.added,
       omega (arith, c.add-orders-of-m.ensures.room, c.loop-j.invariant.1),
     )
@@ -32,5 +32,5 @@ returns g c =
     let t = g.K.Kind.time in
     let e : c.loop-j.j ≡ length c.args.v.runs.now = omega arith in
     let P : ℕ → Type 0 = λ n. Added t (OrderArcs t (all_of t (seen c.args.v)) n) c.args.arcs.now c.args.start c.loop-j.arcs c.loop-j.m in
-    let same = ap (total (track-in t (all_of t (seen c.args.v)))) e in
+    let same = ap (total (track_in t (all_of t (seen c.args.v)))) e in
     record { added = subst P e c.loop-j.invariant.0; room = omega (arith, c.loop-j.invariant.1) }

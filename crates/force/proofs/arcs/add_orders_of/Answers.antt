@@ -3,7 +3,7 @@ use Rattle.records.specs.Places.{total, place, earlier, count, Previous, Ordered
 use Rattle.records.proofs.Counts.{place_below, previous_of, count_back, count_still, laid_place}
 use Rattle.records.specs.Register.{seen, all_of}
 use Rattle.force.specs.Added.{Added, Among, OrderOf}
-use Rattle.force.specs.Force.{track-in, run_in}
+use Rattle.force.specs.Force.{track_in, run_in}
 use Rattle.force.proofs.Adds.{added_none, added_back}
 use Rattle.force.proofs.Parts.{order_is}
 use Rattle.force.proofs.arcs.add_orders_of.Goals as goal
@@ -16,7 +16,7 @@ track-of-track-requires g c =
 pub loop-past-init : goal.loop-past-init
 loop-past-init g c =
     let t = g.K.Kind.time in
-    let f = track-in t (all_of t (seen c.args.v)) in
+    let f = track_in t (all_of t (seen c.args.v)) in
     let j = c.args.j in
     let q = get_or c.args.befores.now j 0 in
     let prev = c.requires.laid.before j c.requires.inside in
@@ -25,13 +25,13 @@ loop-past-init g c =
 
 pub bounds-v-base : goal.bounds-v-base
 bounds-v-base g c =
-    let f = track-in g.K.Kind.time (all_of g.K.Kind.time (seen c.args.v)) in
+    let f = track_in g.K.Kind.time (all_of g.K.Kind.time (seen c.args.v)) in
     let h = laid_place f (length c.args.v.runs.now) (c.loop-past.past - 1) c.args.j _ _ _ c.requires.laid c.requires.inside (omega (arith, c.loop-past.invariant.1, c.loop-past-test.true)) (c.loop-past.invariant.2 c.loop-past-test.true) in
     omega (arith, h.1, c.requires.limits.0.few_orders, c.requires.limits.1)
 
 pub add-order-m-requires : goal.add-order-m-requires
 add-order-m-requires g c =
-    let f = track-in g.K.Kind.time (all_of g.K.Kind.time (seen c.args.v)) in
+    let f = track_in g.K.Kind.time (all_of g.K.Kind.time (seen c.args.v)) in
     let past = c.loop-past.past in
     let j = c.args.j in
     let in-i : past - 1 < length c.args.v.runs.now = omega (arith, c.loop-past.invariant.1, c.loop-past-test.true, c.requires.inside) in
@@ -48,7 +48,7 @@ pub loop-past-preserved : goal.loop-past-preserved
 loop-past-preserved g c =
     let t = g.K.Kind.time in
     let p = all_of t (seen c.args.v) in
-    let f = track-in t p in
+    let f = track_in t p in
     let j = c.args.j in
     let past = c.loop-past.past in
     let i = past - 1 in
@@ -70,7 +70,7 @@ loop-past-preserved g c =
 
 pub loop-past-smaller : goal.loop-past-smaller
 loop-past-smaller g c =
-    let f = track-in g.K.Kind.time (all_of g.K.Kind.time (seen c.args.v)) in
+    let f = track_in g.K.Kind.time (all_of g.K.Kind.time (seen c.args.v)) in
     let i = c.loop-past.past - 1 in
     let in-i : i < length c.args.v.runs.now = omega (arith, c.loop-past.invariant.1, c.loop-past-test.true, c.requires.inside) in
     let prev = c.requires.laid.before i in-i in omega (arith, prev.within, c.loop-past-test.true)

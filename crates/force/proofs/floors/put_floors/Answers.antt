@@ -1,6 +1,6 @@
 use Rattle.std.proofs.Common.{◌≡◌, ℕ, ◌+◌, ◌*◌, ◌<◌, ◌≤◌, length, sym, ap, ◌∙◌, subst, arith}
 use Rattle.records.specs.Register.{seen, all_of}
-use Rattle.force.specs.Floors.{departure-floor, arrival-floor}
+use Rattle.force.specs.Floors.{departure_floor_lem, arrival_floor_lem}
 use Rattle.force.specs.Added.{FloorsOf}
 use Rattle.force.proofs.Fills.{floors_more}
 use Rattle.force.proofs.floors.put_floors.Goals as goal
@@ -12,8 +12,8 @@ pub loop-r-preserved : goal.loop-r-preserved
 loop-r-preserved g c =
     let t = g.K.Kind.time in
     rw (c.put-in-loop-r.ensures, c.put.ensures) (floors_more t (all_of t (seen c.args.v)) c.loop-r.r c.loop-r.floors c.departure-floor.result c.arrival-floor.result (omega arith)
-    (c.departure-floor.ensures ∙ ap (departure-floor t) c.run-of-run.ensures)
-    (c.arrival-floor.ensures ∙ ap (arrival-floor t) c.run-of-run.ensures)
+    (c.departure-floor.ensures ∙ ap (departure_floor_lem t) c.run-of-run.ensures)
+    (c.arrival-floor.ensures ∙ ap (arrival_floor_lem t) c.run-of-run.ensures)
     c.loop-r.invariant)
 
 pub returns : goal.returns

@@ -3,12 +3,12 @@ use lib.Seq.{set-get_or}
 use Rattle.std.proofs.lemmas.List.{length-take, get_or-set_same}
 use Rattle.records.specs.declared.Run.{Run}
 use Rattle.records.specs.Register.{register_of}
-use Rattle.rules.specs.Rows.{hold-rows}
+use Rattle.rules.specs.Rows.{hold_rows}
 use Rattle.rules.proofs.Rows.{passed_front, passed_back, hold_passed}
 use Rattle.plan.specs.declared.states.Slip.{Slip}
-use Rattle.plan.specs.States.{open-memory}
-use Rattle.plan.specs.Steps.{hold-memory}
-use Rattle.plan.specs.Calls.{lengths, open-call-rows, ring-rows}
+use Rattle.plan.specs.States.{open_memory}
+use Rattle.plan.specs.Steps.{hold_memory}
+use Rattle.plan.specs.Calls.{lengths, open_call_rows, ring_rows}
 use Rattle.registers.proofs.Stays.{limits_kept_lem}
 use Rattle.journal.specs.declared.calls.Plan.TheVariants as stage
 use Rattle.journal.specs.declared.calls.Call.TheVariants as call
@@ -35,10 +35,10 @@ pub put-slip-requires : goal.put-slip-requires
 put-slip-requires g c =
     let t = g.K.Kind.time in
     let a = c.args in
-    let m = open-memory a.plan.now a.tracks.now a.runs.now a.connections.now a.settings.now in
+    let m = open_memory a.plan.now a.tracks.now a.runs.now a.connections.now a.settings.now in
     let k = c.in-Ok.ensures.reckons in
     let w = lengths (length a.times.now) (length a.ring.now) (length a.counts.now) (length a.sums.now) (length a.befores.now) (length a.floors.now) (length a.arcs.now) (length a.tables.now) (length a.marks.now) in
-    let fine = passed_back (open-call-rows t w m a.times.now) (hold-rows t (register_of t m) a.run a.until) (passed_front (open-call-rows t w m a.times.now ++ hold-rows t (register_of t m) a.run a.until) (ring-rows t (register_of t (hold-memory t m a.run (Some a.until)))) k.answers) in
+    let fine = passed_back (open_call_rows t w m a.times.now) (hold_rows t (register_of t m) a.run a.until) (passed_front (open_call_rows t w m a.times.now ++ hold_rows t (register_of t m) a.run a.until) (ring_rows t (register_of t (hold_memory t m a.run (Some a.until)))) k.answers) in
     let known = (hold_passed t (register_of t m) a.run a.until fine).known in
     record {
       inside = kept_inside a.plan.now.runs a.runs.now a.run (length a.slips.now) known c.requires.records.runs c.requires.slots;

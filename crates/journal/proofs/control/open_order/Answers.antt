@@ -3,11 +3,11 @@ use Rattle.network.specs.Refusals.{Row}
 use Rattle.records.specs.declared.Run.{Run}
 use Rattle.records.specs.Register.{Register, register_of}
 use Rattle.rules.specs.declared.switches.Switch.TheVariants as switch
-use Rattle.rules.specs.Rows.{turning-rows}
-use Rattle.plan.specs.States.{open-memory}
-use Rattle.plan.specs.Steps.{report-memory, switch-memory}
+use Rattle.rules.specs.Rows.{turning_rows}
+use Rattle.plan.specs.States.{open_memory}
+use Rattle.plan.specs.Steps.{report_memory, switch_memory}
 use Rattle.plan.specs.Calls.{lengths}
-use Rattle.registers.specs.Steps.{report, set-switch}
+use Rattle.registers.specs.Steps.{report, set_switch}
 use Rattle.registers.proofs.Rows.{turning_match}
 use Rattle.registers.proofs.Stays.{limits_kept_lem}
 use Rattle.journal.specs.declared.calls.Call.TheVariants as call
@@ -27,11 +27,11 @@ pub returns-in-Err : goal.returns-in-Err
 returns-in-Err g c =
     let t = g.K.Kind.time in
     let a = c.args in
-    let m = open-memory a.plan.now a.tracks.now a.runs.now a.connections.now a.settings.now in
-    let own : Register g.row.K.Denot → List Row = λ R. turning-rows t R (switch.Order a.i a.j) a.setting in
+    let m = open_memory a.plan.now a.tracks.now a.runs.now a.connections.now a.settings.now in
+    let own : Register g.row.K.Denot → List Row = λ R. turning_rows t R (switch.Order a.i a.j) a.setting in
     let k = c.in-Err.ensures.reckons in
     λ l slips trial listed B st.
-    let r = control_refused t g.met.K.Kind.laws a.plan.now a.tracks.now a.runs.now a.connections.now a.settings.now a.times.now slips B st c.requires.records c.requires.listed.times l listed a.ring.now c.order.new.ring trial _ c.requires.listed (limits_kept_lem t) (call.Turn (switch.Order a.i a.j) a.setting) own (register_of t (switch-memory t m (switch.Order a.i a.j) a.setting)) (set-switch B.register (switch.Order a.i a.j) a.setting) refl (turning_match t (register_of t m) B.register st.same (switch.Order a.i a.j) a.setting) (turning_under t (register_of t m) (switch.Order a.i a.j) a.setting) (turned_same t g.met.K.Kind.laws a.plan.now a.tracks.now a.runs.now a.connections.now a.settings.now a.times.now slips B st c.requires.records c.requires.listed.times l listed a.ring.now c.order.new.ring trial _ c.requires.listed (limits_kept_lem t) (switch.Order a.i a.j) a.setting) (Unit {0}) c.in-Err.fault a.times.now c.order.new.times k in
+    let r = control_refused t g.met.K.Kind.laws a.plan.now a.tracks.now a.runs.now a.connections.now a.settings.now a.times.now slips B st c.requires.records c.requires.listed.times l listed a.ring.now c.order.new.ring trial _ c.requires.listed (limits_kept_lem t) (call.Turn (switch.Order a.i a.j) a.setting) own (register_of t (switch_memory t m (switch.Order a.i a.j) a.setting)) (set_switch B.register (switch.Order a.i a.j) a.setting) refl (turning_match t (register_of t m) B.register st.same (switch.Order a.i a.j) a.setting) (turning_under t (register_of t m) (switch.Order a.i a.j) a.setting) (turned_same t g.met.K.Kind.laws a.plan.now a.tracks.now a.runs.now a.connections.now a.settings.now a.times.now slips B st c.requires.records c.requires.listed.times l listed a.ring.now c.order.new.ring trial _ c.requires.listed (limits_kept_lem t) (switch.Order a.i a.j) a.setting) (Unit {0}) c.in-Err.fault a.times.now c.order.new.times k in
     let P : List ℕ → Type 0 = λ bs. Stands t B (state (stage.Open a.plan.now) a.tracks.now a.runs.now a.connections.now bs a.times.now slips) in
     let Q : List g.row.K.Denot → Type 0 = λ ts. Stands t B (state (stage.Open a.plan.now) a.tracks.now a.runs.now a.connections.now c.order.new.settings ts slips) in
     (record { answers = r.0; carried = tt; named = r.1 }, subst Q (sym k.shows) (subst P (sym c.in-Err.ensures.settings) st))

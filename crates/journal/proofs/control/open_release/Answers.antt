@@ -3,12 +3,12 @@ use lib.Seq.{set-get_or}
 use Rattle.std.proofs.lemmas.List.{length-take, get_or-set_same}
 use Rattle.records.specs.declared.Run.{Run}
 use Rattle.records.specs.Register.{register_of}
-use Rattle.rules.specs.Rows.{hold-rows}
+use Rattle.rules.specs.Rows.{hold_rows}
 use Rattle.rules.proofs.Rows.{passed_front, passed_back, hold_passed}
 use Rattle.plan.specs.declared.states.Slip.{Slip}
-use Rattle.plan.specs.States.{open-memory}
-use Rattle.plan.specs.Steps.{hold-memory}
-use Rattle.plan.specs.Calls.{lengths, open-call-rows, ring-rows}
+use Rattle.plan.specs.States.{open_memory}
+use Rattle.plan.specs.Steps.{hold_memory}
+use Rattle.plan.specs.Calls.{lengths, open_call_rows, ring_rows}
 use Rattle.registers.proofs.Stays.{limits_kept_lem}
 use Rattle.journal.specs.declared.calls.Plan.TheVariants as stage
 use Rattle.journal.specs.declared.calls.Call.TheVariants as call

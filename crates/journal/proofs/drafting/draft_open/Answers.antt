@@ -2,7 +2,7 @@ use Rattle.std.proofs.Common.{◌≡◌, true, false, List, [], length, Option, 
 use Rattle.plan.specs.declared.states.Slip.{Slip}
 use Rattle.plan.specs.declared.states.Draft.{Draft}
 use Rattle.plan.specs.declared.states.Open.{Open}
-use Rattle.plan.specs.States.{draft-memory}
+use Rattle.plan.specs.States.{draft_memory}
 use Rattle.plan.specs.Calls.{lengths, opening_rows}
 use Rattle.records.specs.Register.{register_of}
 use Rattle.journal.specs.declared.calls.Plan.TheVariants as stage

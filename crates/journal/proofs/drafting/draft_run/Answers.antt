@@ -4,9 +4,9 @@ use Rattle.records.specs.declared.Track.{Track}
 use Rattle.records.specs.declared.Run.{Run}
 use Rattle.records.specs.declared.Connection.{Connection}
 use Rattle.records.specs.Register.{Register, register_of}
-use Rattle.rules.specs.Rows.{run-rows}
+use Rattle.rules.specs.Rows.{run_rows}
 use Rattle.plan.specs.declared.states.Draft.{Draft}
-use Rattle.plan.specs.States.{draft-memory}
+use Rattle.plan.specs.States.{draft_memory}
 use Rattle.registers.proofs.Rows.{rows_shared}
 use Rattle.registers.proofs.Stays.{limits_kept_lem}
 use Rattle.journal.specs.declared.calls.Call.TheVariants as call
@@ -27,9 +27,9 @@ returns-in-Err g c =
     let t = g.K.Kind.time in
     let a = c.args in
     let writes = c.in-Err.ensures.writes in
-    let own : Register g.row.K.Denot → List Row = λ R. run-rows t R a.run in
+    let own : Register g.row.K.Denot → List Row = λ R. run_rows t R a.run in
     λ l times slips ring trial listed B st.
     let P : Draft → Type 0 = λ d. Stands t B (state (stage.Draft d) a.tracks.now a.runs.now a.connections.now a.settings.now times slips) in
     let Q : List (Run g.row.K.Denot) → Type 0 = λ rs. Stands t B (state (stage.Draft c.run.new.self) a.tracks.now rs a.connections.now a.settings.now times slips) in
     let R : List ℕ → Type 0 = λ bs. Stands t B (state (stage.Draft c.run.new.self) a.tracks.now c.run.new.runs a.connections.now bs times slips) in
-    (draft_refused t a.draft.now a.tracks.now a.runs.now a.connections.now a.settings.now times slips B st l listed c.requires ring trial (call.Run a.run) own refl ((rows_shared t (register_of t (draft-memory a.draft.now a.tracks.now a.runs.now a.connections.now a.settings.now)) B.register st.same).run a.run) (run_under t (register_of t (draft-memory a.draft.now a.tracks.now a.runs.now a.connections.now a.settings.now)) a.run) c.in-Err.fault c.in-Err.ensures.rows, subst R (sym writes.1.0) (subst Q (sym writes.0) (subst P (sym writes.1.1) st)))
+    (draft_refused t a.draft.now a.tracks.now a.runs.now a.connections.now a.settings.now times slips B st l listed c.requires ring trial (call.Run a.run) own refl ((rows_shared t (register_of t (draft_memory a.draft.now a.tracks.now a.runs.now a.connections.now a.settings.now)) B.register st.same).run a.run) (run_under t (register_of t (draft_memory a.draft.now a.tracks.now a.runs.now a.connections.now a.settings.now)) a.run) c.in-Err.fault c.in-Err.ensures.rows, subst R (sym writes.1.0) (subst Q (sym writes.0) (subst P (sym writes.1.1) st)))

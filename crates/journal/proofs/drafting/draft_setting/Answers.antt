@@ -1,8 +1,8 @@
 use Rattle.std.proofs.Common.{◌≡◌, sym, refl, ap, ◌∙◌, inr}
-use Rattle.rules.specs.Rows.{draft-rows, switch-rows}
+use Rattle.rules.specs.Rows.{draft_rows, switch_rows}
 use Rattle.rules.proofs.Rows.{passed_back}
 use Rattle.records.specs.Register.{register_of}
-use Rattle.plan.specs.States.{draft-memory}
+use Rattle.plan.specs.States.{draft_memory}
 use Rattle.registers.proofs.Rows.{rows_shared, setting_same}
 use Rattle.registers.proofs.Matches.{first_behind}
 use Rattle.journal.specs.declared.calls.Answer.TheVariants as answer
@@ -15,8 +15,8 @@ pub returns-in-Ok : goal.returns-in-Ok
 returns-in-Ok g c =
     let t = g.K.Kind.time in
     let a = c.args in
-    let m = draft-memory a.draft.now a.tracks.now a.runs.now a.connections.now a.settings.now in
-    let own = passed_back (draft-rows t m) (switch-rows t (register_of t m) a.switch) c.in-Ok.ensures.rows in
+    let m = draft_memory a.draft.now a.tracks.now a.runs.now a.connections.now a.settings.now in
+    let own = passed_back (draft_rows t m) (switch_rows t (register_of t m) a.switch) c.in-Ok.ensures.rows in
     λ l times slips ring trial listed B st. (
       record {
         answers = ((λ no-lists. no-lists listed), ((rows_shared t (register_of t m) B.register st.same).switch a.switch).passed own);
@@ -30,13 +30,13 @@ pub returns-in-Err : goal.returns-in-Err
 returns-in-Err g c =
     let t = g.K.Kind.time in
     let a = c.args in
-    let m = draft-memory a.draft.now a.tracks.now a.runs.now a.connections.now a.settings.now in
+    let m = draft_memory a.draft.now a.tracks.now a.runs.now a.connections.now a.settings.now in
     λ l times slips ring trial listed B st. (
-    let own = first_behind (draft-rows t m) (switch-rows t (register_of t m) a.switch) _ _ (draft_passed t a.draft.now a.tracks.now a.runs.now a.connections.now a.settings.now times slips B st c.requires) c.in-Err.ensures.rows in (
+    let own = first_behind (draft_rows t m) (switch_rows t (register_of t m) a.switch) _ _ (draft_passed t a.draft.now a.tracks.now a.runs.now a.connections.now a.settings.now times slips B st c.requires) c.in-Err.ensures.rows in (
       record {
         answers = inr ((λ no-lists. no-lists listed), ((rows_shared t (register_of t m) B.register st.same).switch a.switch).first _ _ own);
         carried = tt;
-        named = none_told t B.register ring (switch-rows t (register_of t m) a.switch) (switch_under t (register_of t m) a.switch) c.in-Err.fault own;
+        named = none_told t B.register ring (switch_rows t (register_of t m) a.switch) (switch_under t (register_of t m) a.switch) c.in-Err.fault own;
       },
       st,
     ))

@@ -4,9 +4,9 @@ use Rattle.network.specs.Refusals.{Answers}
 use Rattle.network.proofs.Refusals.{first_front, answers_more}
 use Rattle.records.specs.Register.{Memory, seen, front, all_of, register_of}
 use Rattle.rules.specs.Faults.{plan_number, plan_place}
-use Rattle.rules.specs.Rows.{report-rows}
-use Rattle.plan.specs.States.{open-memory}
-use Rattle.plan.specs.Calls.{lengths, open-call-rows}
+use Rattle.rules.specs.Rows.{report_rows}
+use Rattle.plan.specs.States.{open_memory}
+use Rattle.plan.specs.Calls.{lengths, open_call_rows}
 use Rattle.plan.proofs.Ready.{report_ready}
 use Rattle.plan.proofs.admits.admit_report.Goals as goal
 
@@ -15,21 +15,21 @@ returns-in-err-admit g c =
     let t = g.K.Kind.time in
     let a = c.args in
     let l = lengths (length a.times.now) a.ring a.counts a.sums a.befores a.floors a.arcs a.tables a.marks in
-    let m = open-memory a.plan.now a.tracks.now a.runs.now a.connections.now a.settings.now in
+    let m = open_memory a.plan.now a.tracks.now a.runs.now a.connections.now a.settings.now in
     let p = err_from_is_err_and c.from-residual.result c.from-residual.ensures.1 in
-    rw (p.1, p.2) (record { rows = first_front (open-call-rows t l m a.times.now) (report-rows t (register_of t m) a.event a.at) _ _ c.in-err-admit.ensures.rows; ready = tt })
+    rw (p.1, p.2) (record { rows = first_front (open_call_rows t l m a.times.now) (report_rows t (register_of t m) a.event a.at) _ _ c.in-err-admit.ensures.rows; ready = tt })
 
 pub returns : goal.returns
 returns g c =
     let t = g.K.Kind.time in
     let a = c.args in
     let l = lengths (length a.times.now) a.ring a.counts a.sums a.befores a.floors a.arcs a.tables a.marks in
-    let m = open-memory a.plan.now a.tracks.now a.runs.now a.connections.now a.settings.now in
+    let m = open_memory a.plan.now a.tracks.now a.runs.now a.connections.now a.settings.now in
     let is : seen c.entered.result ≡ front m = c.entered.ensures ∙ ap front c.open-view-v.ensures in
-    let P : Memory g.row.K.Denot → Type 0 = λ x. Answers plan_number plan_place (report-rows t (all_of t x) a.event a.at) c.check-report.result in
-    let own : Answers plan_number plan_place (report-rows t (register_of t m) a.event a.at) c.check-report.result = subst P is c.check-report.ensures in
+    let P : Memory g.row.K.Denot → Type 0 = λ x. Answers plan_number plan_place (report_rows t (all_of t x) a.event a.at) c.check-report.result in
+    let own : Answers plan_number plan_place (report_rows t (register_of t m) a.event a.at) c.check-report.result = subst P is c.check-report.ensures in
     let sound = c.in-ok-admit.ensures.sound in
     record {
-      rows = answers_more plan_number plan_place (open-call-rows t l m a.times.now) (report-rows t (register_of t m) a.event a.at) c.check-report.result c.in-ok-admit.ensures.rows own;
+      rows = answers_more plan_number plan_place (open_call_rows t l m a.times.now) (report_rows t (register_of t m) a.event a.at) c.check-report.result c.in-ok-admit.ensures.rows own;
       ready = report_ready t l m a.times.now sound.0 sound.1 a.event a.at c.check-report.result own;
     }

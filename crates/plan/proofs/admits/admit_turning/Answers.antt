@@ -5,10 +5,10 @@ use Rattle.network.proofs.Refusals.{first_front, first_more, passed_more}
 use Rattle.records.specs.Register.{Memory, seen, front, all_of, register_of}
 use Rattle.records.specs.Stored.{Limits}
 use Rattle.rules.specs.Faults.{plan_number, plan_place}
-use Rattle.rules.specs.Rows.{turning-rows, setting-place}
+use Rattle.rules.specs.Rows.{turning_rows, setting_place}
 use Rattle.rules.proofs.Rows.{setting_named, turning_set}
-use Rattle.plan.specs.States.{open-memory}
-use Rattle.plan.specs.Calls.{lengths, open-call-rows}
+use Rattle.plan.specs.States.{open_memory}
+use Rattle.plan.specs.Calls.{lengths, open_call_rows}
 use Rattle.plan.proofs.Ready.{turning_ready}
 use Rattle.plan.proofs.admits.admit_turning.Given as given
 use Rattle.plan.proofs.admits.admit_turning.Goals as goal
@@ -18,27 +18,27 @@ returns-in-err-admit g c =
     let t = g.K.Kind.time in
     let a = c.args in
     let l = lengths a.written a.ring a.counts a.sums a.befores a.floors a.arcs a.tables a.marks in
-    let m = open-memory a.plan.now a.tracks.now a.runs.now a.connections.now a.settings.now in
+    let m = open_memory a.plan.now a.tracks.now a.runs.now a.connections.now a.settings.now in
     let p = err_from_is_err_and c.from-residual.result c.from-residual.ensures.1 in
-    rw (p.1, p.2) (record { rows = first_front (open-call-rows t l m a.times.now) (turning-rows t (register_of t m) a.switch a.setting) _ _ c.in-err-admit.ensures.rows; ready = tt })
+    rw (p.1, p.2) (record { rows = first_front (open_call_rows t l m a.times.now) (turning_rows t (register_of t m) a.switch a.setting) _ _ c.in-err-admit.ensures.rows; ready = tt })
 
 pub returns-in-err-check-turning : goal.returns-in-err-check-turning
 returns-in-err-check-turning g c =
     let t = g.K.Kind.time in
     let a = c.args in
     let l = lengths a.written a.ring a.counts a.sums a.befores a.floors a.arcs a.tables a.marks in
-    let m = open-memory a.plan.now a.tracks.now a.runs.now a.connections.now a.settings.now in
+    let m = open_memory a.plan.now a.tracks.now a.runs.now a.connections.now a.settings.now in
     let is : seen c.entered-v.result ≡ front m = c.entered-v.ensures ∙ ap front c.open-view.ensures in
     let p = err_from_is_err_and c.from-residual-in-err-check-turning.result c.from-residual-in-err-check-turning.ensures.1 in
     let f = c.in-err-check-turning.field-0.0 in
-    let P : Memory g.row.K.Denot → Type 0 = λ x. First (turning-rows t (all_of t x) a.switch a.setting) (plan_number f) (plan_place f) in
-    rw (p.1, p.2) (record { rows = first_more (open-call-rows t l m a.times.now) (turning-rows t (register_of t m) a.switch a.setting) _ _ c.in-ok-admit.ensures.rows (subst P is c.in-err-check-turning.ensures); ready = tt })
+    let P : Memory g.row.K.Denot → Type 0 = λ x. First (turning_rows t (all_of t x) a.switch a.setting) (plan_number f) (plan_place f) in
+    rw (p.1, p.2) (record { rows = first_more (open_call_rows t l m a.times.now) (turning_rows t (register_of t m) a.switch a.setting) _ _ c.in-ok-admit.ensures.rows (subst P is c.in-err-check-turning.ensures); ready = tt })
 
 pub place-of-requires : goal.place-of-requires
 place-of-requires g c =
     let t = g.K.Kind.time in
     let a = c.args in
-    let m = open-memory a.plan.now a.tracks.now a.runs.now a.connections.now a.settings.now in
+    let m = open_memory a.plan.now a.tracks.now a.runs.now a.connections.now a.settings.now in
     let is : seen c.entered-v.result ≡ front m = c.entered-v.ensures ∙ ap front c.open-view.ensures in
     let P : Memory g.row.K.Denot → Type 0 = λ x. Limits t (all_of t x) in
     let R = all_of t (seen c.entered-v.result) in
@@ -52,12 +52,12 @@ returns g c =
     let t = g.K.Kind.time in
     let a = c.args in
     let l = lengths a.written a.ring a.counts a.sums a.befores a.floors a.arcs a.tables a.marks in
-    let m = open-memory a.plan.now a.tracks.now a.runs.now a.connections.now a.settings.now in
+    let m = open_memory a.plan.now a.tracks.now a.runs.now a.connections.now a.settings.now in
     let is : seen c.entered-v.result ≡ front m = c.entered-v.ensures ∙ ap front c.open-view.ensures in
     let sound = c.in-ok-admit.ensures.sound in
-    let P : Memory g.row.K.Denot → Type 0 = λ x. Passed (turning-rows t (all_of t x) a.switch a.setting) in
-    let passed : Passed (turning-rows t (register_of t m) a.switch a.setting) = subst P is c.in-ok-check-turning.ensures in
+    let P : Memory g.row.K.Denot → Type 0 = λ x. Passed (turning_rows t (all_of t x) a.switch a.setting) in
+    let passed : Passed (turning_rows t (register_of t m) a.switch a.setting) = subst P is c.in-ok-check-turning.ensures in
     record {
-      rows = passed_more (open-call-rows t l m a.times.now) (turning-rows t (register_of t m) a.switch a.setting) c.in-ok-admit.ensures.rows passed;
-      ready = turning_ready t l m a.times.now sound.0 sound.1 a.switch a.setting passed c.place-of.result (c.place-of.ensures.place ∙ ap (λ x. setting-place t (all_of t x) a.switch) is) c.place-of.ensures.inside;
+      rows = passed_more (open_call_rows t l m a.times.now) (turning_rows t (register_of t m) a.switch a.setting) c.in-ok-admit.ensures.rows passed;
+      ready = turning_ready t l m a.times.now sound.0 sound.1 a.switch a.setting passed c.place-of.result (c.place-of.ensures.place ∙ ap (λ x. setting_place t (all_of t x) a.switch) is) c.place-of.ensures.inside;
     }

@@ -4,16 +4,16 @@ use Rattle.records.specs.declared.Run.{Run}
 use Rattle.records.specs.Register.{Memory, seen, register_of}
 use Rattle.records.specs.Stored.{Stored}
 use Rattle.force.specs.Reckoned.{TimesAfter, RingAfter}
-use Rattle.plan.specs.States.{open-memory}
+use Rattle.plan.specs.States.{open_memory}
 use Rattle.plan.proofs.changes.replace_run.Given as given
 use Rattle.plan.proofs.changes.replace_run.Goals as goal
 
 pub reckon-plan-requires : goal.reckon-plan-requires
 reckon-plan-requires g c =
     let t = g.K.Kind.time in
-    let m = open-memory c.args.plan.now c.args.tracks.now (set c.args.runs.now c.args.r c.args.run) c.args.connections.now c.args.settings.now in
+    let m = open_memory c.args.plan.now c.args.tracks.now (set c.args.runs.now c.args.r c.args.run) c.args.connections.now c.args.settings.now in
     let written : c.put-run.new.runs ≡ set c.args.runs.now c.args.r c.args.run = c.put-run.ensures in
-    let is : seen c.open-view.result ≡ m = c.open-view.ensures ∙ ap (λ runs. open-memory c.args.plan.now c.args.tracks.now runs c.args.connections.now c.args.settings.now) written in
+    let is : seen c.open-view.result ≡ m = c.open-view.ensures ∙ ap (λ runs. open_memory c.args.plan.now c.args.tracks.now runs c.args.connections.now c.args.settings.now) written in
     let P : Memory g.row.K.Denot → Type 0 = Stored t in
     let r = c.requires.records in
     let l = c.requires.listed in
@@ -30,7 +30,7 @@ returns-in-Ok g c =
     let t = g.K.Kind.time in
     let a = c.args in
     let now-runs = set a.runs.now a.r a.run in
-    let is : seen c.open-view.result ≡ open-memory a.plan.now a.tracks.now now-runs a.connections.now a.settings.now = c.open-view.ensures ∙ ap (λ runs. open-memory a.plan.now a.tracks.now runs a.connections.now a.settings.now) c.put-run.ensures in
+    let is : seen c.open-view.result ≡ open_memory a.plan.now a.tracks.now now-runs a.connections.now a.settings.now = c.open-view.ensures ∙ ap (λ runs. open_memory a.plan.now a.tracks.now runs a.connections.now a.settings.now) c.put-run.ensures in
     let P : Memory g.row.K.Denot → Type 0 = λ m. TimesAfter t (register_of t m) a.times.now c.reckon-plan.new.times (Ok tt) in
     let Q : Memory g.row.K.Denot → Type 0 = λ m. RingAfter t (register_of t m) a.ring.now c.reckon-plan.new.ring (Ok tt) in
     record {
@@ -44,7 +44,7 @@ returns-in-Err g c =
     let t = g.K.Kind.time in
     let a = c.args in
     let now-runs = set a.runs.now a.r a.run in
-    let is : seen c.open-view.result ≡ open-memory a.plan.now a.tracks.now now-runs a.connections.now a.settings.now = c.open-view.ensures ∙ ap (λ runs. open-memory a.plan.now a.tracks.now runs a.connections.now a.settings.now) c.put-run.ensures in
+    let is : seen c.open-view.result ≡ open_memory a.plan.now a.tracks.now now-runs a.connections.now a.settings.now = c.open-view.ensures ∙ ap (λ runs. open_memory a.plan.now a.tracks.now runs a.connections.now a.settings.now) c.put-run.ensures in
     let P : Memory g.row.K.Denot → Type 0 = λ m. TimesAfter t (register_of t m) a.times.now c.reckon-plan.new.times (Err c.in-Err.fault) in
     let Q : Memory g.row.K.Denot → Type 0 = λ m. RingAfter t (register_of t m) a.ring.now c.reckon-plan.new.ring (Err c.in-Err.fault) in
     record {

@@ -1,5 +1,5 @@
 use Rattle.std.proofs.Common.{◌≡◌, ◌<◌, ap, ◌∙◌, arith}
-use Rattle.records.specs.Records.{track-of}
+use Rattle.records.specs.Records.{track_of_lem}
 use Rattle.records.specs.Places.{total}
 use Rattle.records.proofs.Counts.{total_kept}
 use Rattle.plan.proofs.draft.orders_below.Goals as goal
@@ -10,11 +10,11 @@ count-orders-requires g c =
     record {
       few = omega (arith, cut.front-len, c.requires.few);
       tracks = λ k h. (let below : k < c.args.n = omega (arith, cut.front-len) in
-          let same : track-of g.K.Kind.time c.split-at.result.0.now k ≡ track-of g.K.Kind.time c.args.runs.now k = ap (λ r. r.track) (cut.by_index.1 k _ below) in omega (arith, c.requires.tracks k below));
+          let same : track_of_lem g.K.Kind.time c.split-at.result.0.now k ≡ track_of_lem g.K.Kind.time c.args.runs.now k = ap (λ r. r.track) (cut.by_index.1 k _ below) in omega (arith, c.requires.tracks k below));
     }
 
 pub returns : goal.returns
 returns g c =
     let cut = c.split-at.ensures in
-    let f = track-of g.K.Kind.time c.split-at.result.0.now in
-    c.count-orders.ensures ∙ ap (total f) cut.front-len ∙ total_kept f (track-of g.K.Kind.time c.args.runs.now) c.args.n (λ k h. ap (λ r. r.track) (cut.by_index.1 k _ h))
+    let f = track_of_lem g.K.Kind.time c.split-at.result.0.now in
+    c.count-orders.ensures ∙ ap (total f) cut.front-len ∙ total_kept f (track_of_lem g.K.Kind.time c.args.runs.now) c.args.n (λ k h. ap (λ r. r.track) (cut.by_index.1 k _ h))

@@ -5,8 +5,8 @@ use Rattle.network.proofs.Refusals.{first_front, answers_more}
 use Rattle.records.specs.Register.{Memory, seen, front, all_of, register_of}
 use Rattle.records.specs.Stored.{Limits}
 use Rattle.rules.specs.Faults.{plan_number, plan_place}
-use Rattle.rules.specs.Rows.{SoundDraft, draft-rows, setting-rows}
-use Rattle.plan.specs.States.{draft-memory}
+use Rattle.rules.specs.Rows.{SoundDraft, draft_rows, setting_rows}
+use Rattle.plan.specs.States.{draft_memory}
 use Rattle.plan.proofs.Entering.{fits, preset_known}
 use Rattle.plan.proofs.drafting.admit_preset.Goals as goal
 
@@ -14,10 +14,10 @@ pub returns-in-err-check-draft : goal.returns-in-err-check-draft
 returns-in-err-check-draft g c =
     let t = g.K.Kind.time in
     let a = c.args in
-    let m = draft-memory a.draft.now a.tracks.now a.runs.now a.connections.now a.settings.now in
+    let m = draft_memory a.draft.now a.tracks.now a.runs.now a.connections.now a.settings.now in
     let p = err_from_is_err_and c.from-residual.result c.from-residual.ensures.1 in
-    let P : Memory g.row.K.Denot → Type 0 = λ x. First (draft-rows t x) (plan_number c.in-err-check-draft.field-0.0) (plan_place c.in-err-check-draft.field-0.0) in
-    rw (p.1, p.2) (record { rows = first_front (draft-rows t m) (setting-rows t (register_of t m) a.switch a.setting) _ _ (subst P c.draft-view-v.ensures c.in-err-check-draft.ensures.rows); known = tt })
+    let P : Memory g.row.K.Denot → Type 0 = λ x. First (draft_rows t x) (plan_number c.in-err-check-draft.field-0.0) (plan_place c.in-err-check-draft.field-0.0) in
+    rw (p.1, p.2) (record { rows = first_front (draft_rows t m) (setting_rows t (register_of t m) a.switch a.setting) _ _ (subst P c.draft-view-v.ensures c.in-err-check-draft.ensures.rows); known = tt })
 
 pub entered-requires : goal.entered-requires
 entered-requires g c =
@@ -36,14 +36,14 @@ pub returns : goal.returns
 returns g c =
     let t = g.K.Kind.time in
     let a = c.args in
-    let m = draft-memory a.draft.now a.tracks.now a.runs.now a.connections.now a.settings.now in
+    let m = draft_memory a.draft.now a.tracks.now a.runs.now a.connections.now a.settings.now in
     let is : seen c.entered.result ≡ front m = c.entered.ensures ∙ ap front c.draft-view-v.ensures in
-    let P : Memory g.row.K.Denot → Type 0 = λ x. Answers plan_number plan_place (setting-rows t (all_of t x) a.switch a.setting) c.check-setting.result in
-    let own : Answers plan_number plan_place (setting-rows t (register_of t m) a.switch a.setting) c.check-setting.result = subst P is c.check-setting.ensures in
+    let P : Memory g.row.K.Denot → Type 0 = λ x. Answers plan_number plan_place (setting_rows t (all_of t x) a.switch a.setting) c.check-setting.result in
+    let own : Answers plan_number plan_place (setting_rows t (register_of t m) a.switch a.setting) c.check-setting.result = subst P is c.check-setting.ensures in
     let Q : Memory g.row.K.Denot → Type 0 = λ x. SoundDraft t x in
-    let R : Memory g.row.K.Denot → Type 0 = λ x. Passed (draft-rows t x) in
+    let R : Memory g.row.K.Denot → Type 0 = λ x. Passed (draft_rows t x) in
     let sound = subst Q c.draft-view-v.ensures c.in-ok-check-draft.ensures.sound in
     record {
-      rows = answers_more plan_number plan_place (draft-rows t m) (setting-rows t (register_of t m) a.switch a.setting) c.check-setting.result (subst R c.draft-view-v.ensures c.in-ok-check-draft.ensures.rows) own;
+      rows = answers_more plan_number plan_place (draft_rows t m) (setting_rows t (register_of t m) a.switch a.setting) c.check-setting.result (subst R c.draft-view-v.ensures c.in-ok-check-draft.ensures.rows) own;
       known = preset_known t m sound a.switch a.setting c.check-setting.result own;
     }

@@ -7,8 +7,8 @@ use Rattle.records.specs.Register.{Memory, seen, register_of}
 use Rattle.records.specs.Stored.{Stored, Shown}
 use Rattle.force.specs.Reckoned.{TimesAfter, RingAfter}
 use Rattle.force.proofs.Sizes.{least_small}
-use Rattle.cost.specs.Cost.{delay-cost}
-use Rattle.plan.specs.States.{open-memory}
+use Rattle.cost.specs.Cost.{delay_cost_lem}
+use Rattle.plan.specs.States.{open_memory}
 use Rattle.plan.proofs.trials.try_setting.Given as given
 use Rattle.plan.proofs.trials.try_setting.Goals as goal
 
@@ -16,7 +16,7 @@ pub reckon-plan-requires : goal.reckon-plan-requires
 reckon-plan-requires g c =
     let t = g.K.Kind.time in
     let a = c.args in
-    let is : seen c.open-view.result ≡ open-memory a.plan.now a.tracks.now a.runs.now a.connections.now (set a.settings.now a.place a.setting) = c.open-view.ensures ∙ ap (open-memory a.plan.now a.tracks.now a.runs.now a.connections.now) c.bytes.ensures in
+    let is : seen c.open-view.result ≡ open_memory a.plan.now a.tracks.now a.runs.now a.connections.now (set a.settings.now a.place a.setting) = c.open-view.ensures ∙ ap (open_memory a.plan.now a.tracks.now a.runs.now a.connections.now) c.bytes.ensures in
     let P : Memory g.row.K.Denot → Type 0 = Stored t in
     let r = c.requires.records in
     let l = c.requires.listed in
@@ -32,7 +32,7 @@ pub returns-in-err-reckon-plan : goal.returns-in-err-reckon-plan
 returns-in-err-reckon-plan g c =
     let t = g.K.Kind.time in
     let a = c.args in
-    let is : seen c.open-view.result ≡ open-memory a.plan.now a.tracks.now a.runs.now a.connections.now (set a.settings.now a.place a.setting) = c.open-view.ensures ∙ ap (open-memory a.plan.now a.tracks.now a.runs.now a.connections.now) c.bytes.ensures in
+    let is : seen c.open-view.result ≡ open_memory a.plan.now a.tracks.now a.runs.now a.connections.now (set a.settings.now a.place a.setting) = c.open-view.ensures ∙ ap (open_memory a.plan.now a.tracks.now a.runs.now a.connections.now) c.bytes.ensures in
     let f = c.in-err-reckon-plan.field-0.0 in
     let told = c.in-err-reckon-plan.ensures in
     let P : Memory g.row.K.Denot → Type 0 = λ m. TimesAfter t (register_of t m) a.trial.now c.reckon-plan.new.times (Err f) in
@@ -49,9 +49,9 @@ pub delay-cost-cost-requires : goal.delay-cost-cost-requires
 delay-cost-cost-requires g c =
     let t = g.K.Kind.time in
     let a = c.args in
-    let m = open-memory a.plan.now a.tracks.now a.runs.now a.connections.now (set a.settings.now a.place a.setting) in
-    let is : seen c.open-view.result ≡ m = c.open-view.ensures ∙ ap (open-memory a.plan.now a.tracks.now a.runs.now a.connections.now) c.bytes.ensures in
-    let is-2 : seen c.open-view-2.result ≡ m = c.open-view-2.ensures ∙ ap (open-memory a.plan.now a.tracks.now a.runs.now a.connections.now) c.bytes-2.ensures in
+    let m = open_memory a.plan.now a.tracks.now a.runs.now a.connections.now (set a.settings.now a.place a.setting) in
+    let is : seen c.open-view.result ≡ m = c.open-view.ensures ∙ ap (open_memory a.plan.now a.tracks.now a.runs.now a.connections.now) c.bytes.ensures in
+    let is-2 : seen c.open-view-2.result ≡ m = c.open-view-2.ensures ∙ ap (open_memory a.plan.now a.tracks.now a.runs.now a.connections.now) c.bytes-2.ensures in
     let P : Memory g.row.K.Denot → Type 0 = Stored t in
     let Q : Memory g.row.K.Denot → Type 0 = λ x. TimesAfter t (register_of t x) a.trial.now c.reckon-plan.new.times (Ok tt) in
     let least = (subst Q is c.in-ok-reckon-plan.ensures.times).0 in
@@ -73,15 +73,15 @@ pub returns : goal.returns
 returns g c =
     let t = g.K.Kind.time in
     let a = c.args in
-    let m = open-memory a.plan.now a.tracks.now a.runs.now a.connections.now (set a.settings.now a.place a.setting) in
-    let is : seen c.open-view.result ≡ m = c.open-view.ensures ∙ ap (open-memory a.plan.now a.tracks.now a.runs.now a.connections.now) c.bytes.ensures in
-    let is-2 : seen c.open-view-2.result ≡ m = c.open-view-2.ensures ∙ ap (open-memory a.plan.now a.tracks.now a.runs.now a.connections.now) c.bytes-2.ensures in
+    let m = open_memory a.plan.now a.tracks.now a.runs.now a.connections.now (set a.settings.now a.place a.setting) in
+    let is : seen c.open-view.result ≡ m = c.open-view.ensures ∙ ap (open_memory a.plan.now a.tracks.now a.runs.now a.connections.now) c.bytes.ensures in
+    let is-2 : seen c.open-view-2.result ≡ m = c.open-view-2.ensures ∙ ap (open_memory a.plan.now a.tracks.now a.runs.now a.connections.now) c.bytes-2.ensures in
     let told = c.in-ok-reckon-plan.ensures in
     let P : Memory g.row.K.Denot → Type 0 = λ x. TimesAfter t (register_of t x) a.trial.now c.reckon-plan.new.times (Ok tt) in
     let Q : Memory g.row.K.Denot → Type 0 = λ x. RingAfter t (register_of t x) a.ring.now c.reckon-plan.new.ring (Ok tt) in
     record {
       times = subst P is told.times;
       ring = subst Q is told.ring;
-      cost = c.delay-cost-cost.ensures ∙ ap (λ x. delay-cost t (register_of t x) (at t c.reckon-plan.new.times)) is-2;
+      cost = c.delay-cost-cost.ensures ∙ ap (λ x. delay_cost_lem t (register_of t x) (at t c.reckon-plan.new.times)) is-2;
       settings = c.drop-switched-2.ensures ∙ set-set a.settings.now a.place a.setting _ ∙ set-get_or a.settings.now a.place 0;
     }

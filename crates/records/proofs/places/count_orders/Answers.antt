@@ -1,7 +1,7 @@
 use Rattle.std.proofs.Common.{◌≡◌, ℕ, ◌+◌, ◌*◌, ◌<◌, ◌≤◌, length, get_or, set, sym, refl, ap, ◌∙◌, arith, length-set}
 use Rattle.std.proofs.lemmas.List.{get_or-replicate}
 use Rattle.records.specs.Places.{count, earlier, total}
-use Rattle.records.specs.Records.{track-of}
+use Rattle.records.specs.Records.{track_of_lem}
 use Rattle.records.proofs.Counts.{count_small, total_small, total_more, tally_more}
 use Rattle.records.proofs.places.count_orders.Given.{Over}
 use Rattle.records.proofs.places.count_orders.Goals as goal
@@ -13,9 +13,9 @@ record Turn (f : ℕ → ℕ) (j x w : ℕ) : Type 0 where
   here : w ≡ count f x j
   low : w ≤ j
 
-turn : (g : Over) (c : goal.After-run-of g) → Turn (track-of g.K.Kind.time c.args.runs.now) c.loop-j.j c.run-of.result.track (get_or c.loop-j.tally c.run-of.result.track 0)
+turn : (g : Over) (c : goal.After-run-of g) → Turn (track_of_lem g.K.Kind.time c.args.runs.now) c.loop-j.j c.run-of.result.track (get_or c.loop-j.tally c.run-of.result.track 0)
 turn g c =
-    let f = track-of g.K.Kind.time c.args.runs.now in
+    let f = track_of_lem g.K.Kind.time c.args.runs.now in
     let j = c.loop-j.j in
     let e : c.run-of.result.track ≡ f j = ap (λ r. r.track) c.run-of.ensures in
     let h : c.run-of.result.track < 64 = omega (arith, c.requires.tracks j c.loop-j-test.true) in
@@ -35,7 +35,7 @@ overflow-cast-sum g c = let h = (turn g c).low in omega arith
 pub overflow-add-sum : goal.overflow-add-sum
 overflow-add-sum g c =
     let h = (turn g c).low in
-    let d = total_small (track-of g.K.Kind.time c.args.runs.now) 512 c.loop-j.j (omega arith) in omega arith
+    let d = total_small (track_of_lem g.K.Kind.time c.args.runs.now) 512 c.loop-j.j (omega arith) in omega arith
 
 pub overflow-add-tally : goal.overflow-add-tally
 overflow-add-tally g c = let h = (turn g c).low in omega arith
@@ -45,7 +45,7 @@ bounds-tally-track-in-loop-j g c = (turn g c).inside
 
 pub loop-j-preserved : goal.loop-j-preserved
 loop-j-preserved g c =
-    let f = track-of g.K.Kind.time c.args.runs.now in
+    let f = track_of_lem g.K.Kind.time c.args.runs.now in
     let j = c.loop-j.j in
     let h = turn g c in
     let counted : get_or c.loop-j.tally c.run-of.result.track 0 ≡ earlier f j = h.here ∙ ap (λ (y : ℕ). count f y j) h.on in
@@ -53,4 +53,4 @@ loop-j-preserved g c =
     (omega (arith, c.loop-j.invariant.0), tally_more f j c.loop-j.tally c.run-of.result.track _ h.on (omega (arith, h.inside)) h.here c.loop-j.invariant.1, simp length-set c.loop-j.invariant.2)
 
 pub returns : goal.returns
-returns g c = let e : c.loop-j.j ≡ length c.args.runs.now = omega arith in c.loop-j.invariant.0 ∙ ap (total (track-of g.K.Kind.time c.args.runs.now)) e
+returns g c = let e : c.loop-j.j ≡ length c.args.runs.now = omega arith in c.loop-j.invariant.0 ∙ ap (total (track_of_lem g.K.Kind.time c.args.runs.now)) e

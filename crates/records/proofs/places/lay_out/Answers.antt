@@ -1,7 +1,7 @@
 use Rattle.std.proofs.Common.{◌≡◌, ℕ, ◌+◌, ◌*◌, ◌<◌, ◌≤◌, length, get_or, set, sym, refl, ap, ◌∙◌, subst, arith, length-set}
 use Rattle.std.proofs.lemmas.List.{get_or-replicate}
 use Rattle.records.specs.Places.{count, earlier, total, Previous, Laid}
-use Rattle.records.specs.Records.{track-of, run_at}
+use Rattle.records.specs.Records.{track_of_lem, run_at}
 use Rattle.records.proofs.Counts.{count_small, total_small, total_more, laid_more, tally_more, last_more}
 use Rattle.records.proofs.places.lay_out.Goals as goal
 
@@ -16,7 +16,7 @@ bounds-last-track g c = let e = ap (λ r. r.track) c.run-of.ensures in let h = c
 
 pub overflow-add-sum : goal.overflow-add-sum
 overflow-add-sum g c =
-    let f = track-of g.K.Kind.time c.args.runs.now in
+    let f = track_of_lem g.K.Kind.time c.args.runs.now in
     let j = c.loop-j.j in
     let e : c.run-of.result.track ≡ f j = ap (λ r. r.track) c.run-of.ensures in
     let h : c.run-of.result.track < 64 = omega (arith, c.requires.tracks j c.loop-j-test.true) in
@@ -26,7 +26,7 @@ overflow-add-sum g c =
 
 pub overflow-add-tally : goal.overflow-add-tally
 overflow-add-tally g c =
-    let f = track-of g.K.Kind.time c.args.runs.now in
+    let f = track_of_lem g.K.Kind.time c.args.runs.now in
     let j = c.loop-j.j in
     let e : c.run-of.result.track ≡ f j = ap (λ r. r.track) c.run-of.ensures in
     let h : c.run-of.result.track < 64 = omega (arith, c.requires.tracks j c.loop-j-test.true) in
@@ -41,7 +41,7 @@ bounds-last-track-in-loop-j g c = let e = ap (λ r. r.track) c.run-of.ensures in
 
 pub loop-j-preserved : goal.loop-j-preserved
 loop-j-preserved g c =
-    let f = track-of g.K.Kind.time c.args.runs.now in
+    let f = track_of_lem g.K.Kind.time c.args.runs.now in
     let j = c.loop-j.j in
     let x = c.run-of.result.track in
     let e : x ≡ f j = ap (λ r. r.track) c.run-of.ensures in
@@ -62,13 +62,13 @@ loop-j-preserved g c =
 pub returns : goal.returns
 returns g c =
     let e : c.loop-j.j ≡ length c.args.runs.now = omega arith in
-    let f = track-of g.K.Kind.time c.args.runs.now in
+    let f = track_of_lem g.K.Kind.time c.args.runs.now in
     let P : ℕ → Type 0 = λ n. Laid f n c.loop-j.counts c.loop-j.sums c.loop-j.befores in
     record { laid = subst P e c.loop-j.invariant.0; orders = c.loop-j.invariant.1 ∙ ap (total f) e }
 
 pub overflow-cast-sum : goal.overflow-cast-sum
 overflow-cast-sum g c =
-    let f = track-of g.K.Kind.time c.args.runs.now in
+    let f = track_of_lem g.K.Kind.time c.args.runs.now in
     let j = c.loop-j.j in
     let e : c.run-of.result.track ≡ f j = ap (λ r. r.track) c.run-of.ensures in
     let h : c.run-of.result.track < 64 = omega (arith, c.requires.tracks j c.loop-j-test.true) in

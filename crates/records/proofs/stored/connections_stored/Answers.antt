@@ -1,7 +1,7 @@
 use Rattle.std.proofs.Common.{◌≡◌, ℕ, ◌+◌, ◌<◌, ◌≤◌, sym, refl, subst, arith, below_more}
 use Rattle.std.proofs.lemmas.Bool.{false≢true, both_ways}
 use Rattle.records.specs.declared.Connection.{Connection}
-use Rattle.records.specs.Records.{connection-at}
+use Rattle.records.specs.Records.{connection_at}
 use Rattle.records.specs.Stored.{ConnectionStored}
 use Rattle.records.proofs.stored.connections_stored.Goals as goal
 
@@ -14,7 +14,7 @@ pub loop-i-preserved : goal.loop-i-preserved
 loop-i-preserved g c =
     let t = g.K.Kind.time in
     let P : Connection g.row.K.Denot → Type 0 = ConnectionStored t c.args.runs in
-    below_more (λ r. ConnectionStored t c.args.runs (connection-at t c.args.connections.now r)) c.loop-i.i c.loop-i.invariant (subst P c.connection-of.ensures (c.connection-stored.ensures.0 c.if-not-connection-stored.false))
+    below_more (λ r. ConnectionStored t c.args.runs (connection_at t c.args.connections.now r)) c.loop-i.i c.loop-i.invariant (subst P c.connection-of.ensures (c.connection-stored.ensures.0 c.if-not-connection-stored.false))
 
 pub returns : goal.returns
 returns g c = ((λ _. record { each = λ k h. c.loop-i.invariant k (omega arith) }), λ _. refl)

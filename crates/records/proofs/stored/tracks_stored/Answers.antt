@@ -1,7 +1,7 @@
 use Rattle.std.proofs.Common.{◌≡◌, ℕ, ◌+◌, ◌<◌, ◌≤◌, sym, refl, subst, arith, below_more}
 use Rattle.std.proofs.lemmas.Bool.{false≢true, both_ways}
 use Rattle.records.specs.declared.Track.{Track}
-use Rattle.records.specs.Records.{track-at}
+use Rattle.records.specs.Records.{track_at}
 use Rattle.records.specs.Stored.{TrackStored}
 use Rattle.records.proofs.stored.tracks_stored.Goals as goal
 
@@ -14,7 +14,7 @@ pub loop-i-preserved : goal.loop-i-preserved
 loop-i-preserved g c =
     let t = g.K.Kind.time in
     let P : Track g.row.K.Denot → Type 0 = TrackStored t in
-    below_more (λ k. TrackStored t (track-at t c.args.tracks.now k)) c.loop-i.i c.loop-i.invariant (subst P c.track-of.ensures (c.track-stored.ensures.0 c.if-not-track-stored.false))
+    below_more (λ k. TrackStored t (track_at t c.args.tracks.now k)) c.loop-i.i c.loop-i.invariant (subst P c.track-of.ensures (c.track-stored.ensures.0 c.if-not-track-stored.false))
 
 pub returns : goal.returns
 returns g c = ((λ _. record { each = λ k h. c.loop-i.invariant k (omega arith) }), λ _. refl)

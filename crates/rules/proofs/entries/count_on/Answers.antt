@@ -1,16 +1,16 @@
 use Rattle.std.proofs.Common.{◌≡◌, length, sym, ap, ◌∙◌, arith}
 use Rattle.records.specs.Places.{count}
-use Rattle.records.specs.Records.{track-of}
+use Rattle.records.specs.Records.{track_of_lem}
 use Rattle.records.proofs.Counts.{count_small, count_hit, count_miss}
 use Rattle.rules.proofs.entries.count_on.Goals as goal
 use Rattle.rules.proofs.entries.count_on.Goals.{then-on-track, else-on-track}
 
 pub overflow-add-found : goal.overflow-add-found
-overflow-add-found g c = let h = count_small (track-of g.K.Kind.time c.args.runs.now) c.args.track c.loop-j.j in omega arith
+overflow-add-found g c = let h = count_small (track_of_lem g.K.Kind.time c.args.runs.now) c.args.track c.loop-j.j in omega arith
 
 pub loop-j-preserved : goal.loop-j-preserved
 loop-j-preserved g c =
-    let f = track-of g.K.Kind.time c.args.runs.now in
+    let f = track_of_lem g.K.Kind.time c.args.runs.now in
     let x = c.args.track in
     let j = c.loop-j.j in
     let e : c.run-of-on.result.track ≡ f j = ap (λ r. r.track) c.run-of-on.ensures in
@@ -20,4 +20,4 @@ loop-j-preserved g c =
     ]
 
 pub returns : goal.returns
-returns g c = let e : c.loop-j.j ≡ length c.args.runs.now = omega arith in c.loop-j.invariant ∙ ap (count (track-of g.K.Kind.time c.args.runs.now) c.args.track) e
+returns g c = let e : c.loop-j.j ≡ length c.args.runs.now = omega arith in c.loop-j.invariant ∙ ap (count (track_of_lem g.K.Kind.time c.args.runs.now) c.args.track) e

@@ -1,6 +1,6 @@
 use Rattle.std.proofs.Common.{◌+◌, length, refl, inl, inr, arith}
 use Rattle.std.proofs.lemmas.Bool.{ltb-true, lt-ltb}
-use Rattle.records.specs.Records.{track-of}
+use Rattle.records.specs.Records.{track_of_lem}
 use Rattle.records.proofs.Counts.{count_small}
 use Rattle.rules.proofs.entries.too_many.Goals as goal
 
@@ -9,7 +9,7 @@ count-orders-requires g c = record { few = c.requires.few_runs; tracks = λ k h.
 
 pub overflow-add-orders : goal.overflow-add-orders
 overflow-add-orders g c =
-    let h = count_small (track-of g.K.Kind.time c.args.v.runs.now) c.args.track (length c.args.v.runs.now) in omega (arith, c.count-orders.ensures, c.count-on.ensures, c.requires.few_orders, c.requires.few_runs)
+    let h = count_small (track_of_lem g.K.Kind.time c.args.v.runs.now) c.args.track (length c.args.v.runs.now) in omega (arith, c.count-orders.ensures, c.count-on.ensures, c.requires.few_orders, c.requires.few_runs)
 
 pub returns-then-v-ge-RUNS : goal.returns-then-v-ge-RUNS
 returns-then-v-ge-RUNS g c = ((λ _. inl (omega arith)), λ _. refl)

@@ -1,5 +1,5 @@
 use Rattle.std.proofs.Common.{◌≡◌, ℕ, ◌<◌, length, ap, ◌∙◌, arith}
-use Rattle.records.specs.Records.{track-of}
+use Rattle.records.specs.Records.{track_of_lem}
 use Rattle.records.specs.Places.{count, total}
 use Rattle.records.proofs.Counts.{count_kept, total_kept, place_below}
 use Rattle.rules.proofs.settings.order_place.Given.{Over}
@@ -20,19 +20,19 @@ count-orders-requires g c =
     record {
       few = omega (arith, cut.front-len, c.requires.ordered.inside, c.requires.limits.few_runs);
       tracks = λ k h. (let in-j : k < c.args.j = omega (arith, cut.front-len) in
-          let same : track-of g.K.Kind.time c.split-at-2.result.0.now k ≡ track-of g.K.Kind.time c.args.v.runs.now k = ap (λ r. r.track) (cut.by_index.1 k _ in-j) in
+          let same : track_of_lem g.K.Kind.time c.split-at-2.result.0.now k ≡ track_of_lem g.K.Kind.time c.args.v.runs.now k = ap (λ r. r.track) (cut.by_index.1 k _ in-j) in
           let on = (c.requires.limits.runs.each k (omega (arith, c.requires.ordered.inside))).0.1.0 in omega (arith, c.requires.limits.few_tracks));
     }
 
 -- the two parts of the place
-parts : (g : Over) (c : goal.After-count-on g) → (c.count-orders.result ≡ total (track-of g.K.Kind.time c.args.v.runs.now) c.args.j) × (c.count-on.result ≡ count (track-of g.K.Kind.time c.args.v.runs.now) (track-of g.K.Kind.time c.args.v.runs.now c.args.i) c.args.i)
+parts : (g : Over) (c : goal.After-count-on g) → (c.count-orders.result ≡ total (track_of_lem g.K.Kind.time c.args.v.runs.now) c.args.j) × (c.count-on.result ≡ count (track_of_lem g.K.Kind.time c.args.v.runs.now) (track_of_lem g.K.Kind.time c.args.v.runs.now c.args.i) c.args.i)
 parts g c =
     let t = g.K.Kind.time in
-    let f = track-of t c.args.v.runs.now in
+    let f = track_of_lem t c.args.v.runs.now in
     let i = c.args.i in
     let j = c.args.j in
-    let first = track-of t c.split-at.result.0.now in
-    let second = track-of t c.split-at-2.result.0.now in
+    let first = track_of_lem t c.split-at.result.0.now in
+    let second = track_of_lem t c.split-at-2.result.0.now in
     let on : c.run-of-track.result.track ≡ f i = ap (λ r. r.track) c.run-of-track.ensures in (
       c.count-orders.ensures ∙ ap (total second) c.split-at-2.ensures.front-len ∙ total_kept second f j (λ k h. ap (λ r. r.track) (c.split-at-2.ensures.by_index.1 k _ h)),
       c.count-on.ensures ∙ ap (count first c.run-of-track.result.track) c.split-at.ensures.front-len ∙ count_kept first f c.run-of-track.result.track i (λ k h. ap (λ r. r.track) (c.split-at.ensures.by_index.1 k _ h)) ∙ ap (λ (x : ℕ). count f x i) on,
@@ -41,7 +41,7 @@ parts g c =
 pub overflow-add-result : goal.overflow-add-result
 overflow-add-result g c =
     let h = parts g c in
-    let low = place_below (track-of g.K.Kind.time c.args.v.runs.now) (length c.args.v.runs.now) c.args.i c.args.j c.requires.ordered in omega (arith, h.0, h.1, c.requires.limits.few_orders)
+    let low = place_below (track_of_lem g.K.Kind.time c.args.v.runs.now) (length c.args.v.runs.now) c.args.i c.args.j c.requires.ordered in omega (arith, h.0, h.1, c.requires.limits.few_orders)
 
 pub returns : goal.returns
 returns g c = let h = parts g c in omega (arith, h.0, h.1)

@@ -1,7 +1,7 @@
 use Rattle.std.proofs.Common.{sym, subst, arith}
 use Rattle.network.specs.Refusals.{Passed}
 use Rattle.records.specs.Register.{seen, all_of}
-use Rattle.rules.specs.Rows.{switch-rows, TooLate}
+use Rattle.rules.specs.Rows.{switch_rows, TooLate}
 use Rattle.rules.specs.declared.switches.Switch.{Switch}
 use Rattle.rules.proofs.Decisions.{decides_at}
 use Rattle.rules.proofs.Rows.{order_passed, link_passed}
@@ -11,14 +11,14 @@ pub one-departed-requires : goal.one-departed-requires
 one-departed-requires g c =
     let t = g.K.Kind.time in
     let R = all_of t (seen c.args.v) in
-    let P : Switch → Type 0 = λ s. Passed (switch-rows t R s) in
+    let P : Switch → Type 0 = λ s. Passed (switch_rows t R s) in
     let o = order_passed t R c.in-Order.i c.in-Order.j (subst P c.in-Order.is c.requires.passed) in (omega (arith, o.below, o.inside), o.inside)
 
 pub onward-departed-requires : goal.onward-departed-requires
 onward-departed-requires g c =
     let t = g.K.Kind.time in
     let R = all_of t (seen c.args.v) in
-    let P : Switch → Type 0 = λ s. Passed (switch-rows t R s) in
+    let P : Switch → Type 0 = λ s. Passed (switch_rows t R s) in
     record { limits = c.requires.limits; known = link_passed t R c.in-Connection.c (subst P c.in-Connection.is c.requires.passed) }
 
 pub returns-in-Order : goal.returns-in-Order

@@ -1,9 +1,9 @@
 use Rattle.std.proofs.Common.{◌≡◌, ℕ, ◌+◌, ◌-◌, ◌<◌, List, take, sym, refl, ap, ◌∙◌, subst, arith}
 use Rattle.std.proofs.lemmas.Result.{err_from_is_err_and}
 use Rattle.records.specs.declared.Run.{Run}
-use Rattle.records.specs.Records.{track-of}
+use Rattle.records.specs.Records.{track_of_lem}
 use Rattle.records.specs.Places.{total, count}
-use Rattle.plan.specs.States.{draft-memory}
+use Rattle.plan.specs.States.{draft_memory}
 use Rattle.plan.specs.Steps.{unused}
 use Rattle.plan.specs.Drafting.{cleared}
 use Rattle.plan.proofs.Entering.{fits, long_runs, on_tracks, on_tracks_more, orders_parts}
@@ -17,7 +17,7 @@ returns-in-err-admit-run g c =
 pub orders-below-first-requires : goal.orders-below-first-requires
 orders-below-first-requires g c =
     let a = c.args in
-    let m = draft-memory a.self.now a.tracks.now a.runs.now a.connections.now a.settings.now in
+    let m = draft_memory a.self.now a.tracks.now a.runs.now a.connections.now a.settings.now in
     let room = c.in-ok-admit-run.ensures.room in
     record {
       inside = (fits g.K.Kind.time m room.0).1.0;
@@ -30,9 +30,9 @@ orders-below-requires g c =
     let t = g.K.Kind.time in
     let a = c.args in
     let n = a.self.now.runs in
-    let m = draft-memory a.self.now a.tracks.now a.runs.now a.connections.now a.settings.now in
+    let m = draft_memory a.self.now a.tracks.now a.runs.now a.connections.now a.settings.now in
     let room = c.in-ok-admit-run.ensures.room in
-    let P : List (Run g.row.K.Denot) → Type 0 = λ xs. (k : ℕ) → k < n + 1 → track-of t xs k < 64 in
+    let P : List (Run g.row.K.Denot) → Type 0 = λ xs. (k : ℕ) → k < n + 1 → track_of_lem t xs k < 64 in
     record {
       inside = omega (arith, c.put-unused.auto.runs, room.0.listed.runs, room.1.0);
       few = omega (arith, room.1.0);
@@ -43,7 +43,7 @@ pub overflow-sub-number : goal.overflow-sub-number
 overflow-sub-number g c =
     let t = g.K.Kind.time in
     let a = c.args in
-    let m = draft-memory a.self.now a.tracks.now a.runs.now a.connections.now a.settings.now in
+    let m = draft_memory a.self.now a.tracks.now a.runs.now a.connections.now a.settings.now in
     let room = c.in-ok-admit-run.ensures.room in
     let h = orders_parts t m room.0 (unused a.run) room.1.0 _ _ _ c.orders-below-first.ensures c.put-unused.ensures c.orders-below.ensures in omega (arith, h.0, h.1)
 
@@ -51,8 +51,8 @@ pub clear-requires : goal.clear-requires
 clear-requires g c =
     let t = g.K.Kind.time in
     let a = c.args in
-    let m = draft-memory a.self.now a.tracks.now a.runs.now a.connections.now a.settings.now in
-    let f = track-of t (take a.self.now.runs a.runs.now) in
+    let m = draft_memory a.self.now a.tracks.now a.runs.now a.connections.now a.settings.now in
+    let f = track_of_lem t (take a.self.now.runs a.runs.now) in
     let room = c.in-ok-admit-run.ensures.room in
     let h = orders_parts t m room.0 (unused a.run) room.1.0 _ _ _ c.orders-below-first.ensures c.put-unused.ensures c.orders-below.ensures in
     let long = ap (λ (i : ℕ). total f i + count f a.run.track i) (long_runs t m room.0) in omega (arith, h.0, h.1, room.1.1.1, room.0.listed.settings)
@@ -61,10 +61,10 @@ pub returns : goal.returns
 returns g c =
     let t = g.K.Kind.time in
     let a = c.args in
-    let m = draft-memory a.self.now a.tracks.now a.runs.now a.connections.now a.settings.now in
+    let m = draft_memory a.self.now a.tracks.now a.runs.now a.connections.now a.settings.now in
     let room = c.in-ok-admit-run.ensures.room in
     let n = a.self.now.runs in
-    let f = track-of t (take n a.runs.now) in
+    let f = track_of_lem t (take n a.runs.now) in
     let h = orders_parts t m room.0 (unused a.run) room.1.0 _ _ _ c.orders-below-first.ensures c.put-unused.ensures c.orders-below.ensures in
     let new : c.orders-below.result - c.orders-below-first.result ≡ count f a.run.track n = omega (arith, h.0, h.1) in
     record {

@@ -6,9 +6,9 @@ use Rattle.network.specs.Refusals.{First, Passed}
 use Rattle.network.proofs.Refusals.{first_front, first_more, passed_more}
 use Rattle.records.specs.Register.{Memory, seen, front, all_of, register_of}
 use Rattle.rules.specs.Faults.{plan_number, plan_place}
-use Rattle.rules.specs.Rows.{open-rows, SoundOpen}
-use Rattle.cost.specs.Cost.{delay-cost}
-use Rattle.plan.specs.States.{open-memory}
+use Rattle.rules.specs.Rows.{open_rows, SoundOpen}
+use Rattle.cost.specs.Cost.{delay_cost_lem}
+use Rattle.plan.specs.States.{open_memory}
 use Rattle.plan.proofs.states.Open.cost.Given as given
 use Rattle.plan.proofs.states.Open.cost.Goals as goal
 
@@ -16,10 +16,10 @@ pub returns-in-err-check-open : goal.returns-in-err-check-open
 returns-in-err-check-open g c =
     let t = g.K.Kind.time in
     let a = c.args in
-    let m = open-memory a.self.now a.tracks.now a.runs.now a.connections.now a.settings.now in
+    let m = open_memory a.self.now a.tracks.now a.runs.now a.connections.now a.settings.now in
     let p = err_from_is_err_and c.from-residual.result c.from-residual.ensures.1 in
     let f = c.in-err-check-open.field-0.0 in
-    let P : Memory g.row.K.Denot → Type 0 = λ x. First (open-rows t x a.times.now) (plan_number f) (plan_place f) in
+    let P : Memory g.row.K.Denot → Type 0 = λ x. First (open_rows t x a.times.now) (plan_number f) (plan_place f) in
     rw (p.1, p.2) (record { rows = subst P c.open-view-v.ensures c.in-err-check-open.ensures.rows; value = tt })
 
 pub delay-cost-requires : goal.delay-cost-requires
@@ -36,8 +36,8 @@ pub returns : goal.returns
 returns g c =
     let t = g.K.Kind.time in
     let a = c.args in
-    let O : Memory g.row.K.Denot → Type 0 = λ x. Passed (open-rows t x a.times.now) in
+    let O : Memory g.row.K.Denot → Type 0 = λ x. Passed (open_rows t x a.times.now) in
     record {
       rows = subst O c.open-view-v.ensures c.in-ok-check-open.ensures.rows;
-      value = c.delay-cost.ensures ∙ ap (λ x. delay-cost t (register_of t x) (at t a.times.now)) c.open-view-v.ensures;
+      value = c.delay-cost.ensures ∙ ap (λ x. delay_cost_lem t (register_of t x) (at t a.times.now)) c.open-view-v.ensures;
     }

@@ -6,9 +6,9 @@ use Rattle.records.specs.Register.{register_of}
 use Rattle.records.specs.Stored.{Stored}
 use Rattle.force.specs.Reckoned.{TimesAfter, RingAfter}
 use Rattle.plan.specs.declared.states.Slip.{Slip}
-use Rattle.plan.specs.States.{open-memory}
-use Rattle.plan.specs.Steps.{holding, hold-memory}
-use Rattle.plan.specs.Calls.{lengths, hold-call-rows}
+use Rattle.plan.specs.States.{open_memory}
+use Rattle.plan.specs.Steps.{holding, hold_memory}
+use Rattle.plan.specs.Calls.{lengths, hold_call_rows}
 use Rattle.plan.proofs.Reckoned.{reckoned_ok, reckoned_err, refused}
 use Rattle.plan.proofs.states.Open.hold.Given as given
 use Rattle.plan.proofs.states.Open.hold.Goals as goal
@@ -18,10 +18,10 @@ returns-in-err-admit-hold g c =
     let t = g.K.Kind.time in
     let a = c.args in
     let l = lengths (length a.times.now) (length a.ring.now) (length a.counts.now) (length a.sums.now) (length a.befores.now) (length a.floors.now) (length a.arcs.now) (length a.tables.now) (length a.marks.now) in
-    let m = open-memory a.self.now a.tracks.now a.runs.now a.connections.now a.settings.now in
+    let m = open_memory a.self.now a.tracks.now a.runs.now a.connections.now a.settings.now in
     let p = err_from_is_err_and c.from-residual.result c.from-residual.ensures.1 in
     rw (p.1, p.2) (record {
-      reckons = refused t (hold-call-rows t l m a.times.now a.run a.until) (register_of t (hold-memory t m a.run (Some a.until))) Slip (omega arith, (omega arith, (omega arith, (omega arith, (omega arith, (omega arith, (omega arith, (omega arith, (omega arith, tt))))))))) a.times.now a.ring.now _ c.in-err-admit-hold.ensures.rows;
+      reckons = refused t (hold_call_rows t l m a.times.now a.run a.until) (register_of t (hold_memory t m a.run (Some a.until))) Slip (omega arith, (omega arith, (omega arith, (omega arith, (omega arith, (omega arith, (omega arith, (omega arith, (omega arith, tt))))))))) a.times.now a.ring.now _ c.in-err-admit-hold.ensures.rows;
       runs = refl;
       slip = tt;
     })
@@ -33,7 +33,7 @@ replace-run-requires g c =
     let ready = c.in-ok-admit-hold.ensures.ready in
     let r = a.run in
     let is : c.with-hold-marked.result ≡ holding (run_at t a.runs.now r) (Some a.until) = c.with-hold-marked.ensures ∙ ap (λ x. holding x (Some a.until)) c.run-of.ensures in
-    let P : Run g.row.K.Denot → Type 0 = λ x. Stored t (open-memory a.self.now a.tracks.now (set a.runs.now r x) a.connections.now a.settings.now) in
+    let P : Run g.row.K.Denot → Type 0 = λ x. Stored t (open_memory a.self.now a.tracks.now (set a.runs.now r x) a.connections.now a.settings.now) in
     record {
       inside = ready.0;
       records = ready.1.records;
@@ -47,14 +47,14 @@ returns-in-err-replace-run g c =
     let a = c.args in
     let r = a.run in
     let l = lengths (length a.times.now) (length a.ring.now) (length a.counts.now) (length a.sums.now) (length a.befores.now) (length a.floors.now) (length a.arcs.now) (length a.tables.now) (length a.marks.now) in
-    let m = open-memory a.self.now a.tracks.now a.runs.now a.connections.now a.settings.now in
+    let m = open_memory a.self.now a.tracks.now a.runs.now a.connections.now a.settings.now in
     let is : c.with-hold-marked.result ≡ holding (run_at t a.runs.now r) (Some a.until) = c.with-hold-marked.ensures ∙ ap (λ x. holding x (Some a.until)) c.run-of.ensures in
     let p = err_from_is_err_and c.from-residual-in-err-replace-run.result c.from-residual-in-err-replace-run.ensures.1 in
     let told = c.in-err-replace-run.ensures in
-    let P : Run g.row.K.Denot → Type 0 = λ x. TimesAfter t (register_of t (open-memory a.self.now a.tracks.now (set a.runs.now r x) a.connections.now a.settings.now)) a.times.now c.replace-run.new.times (Err c.in-err-replace-run.field-0.0) in
-    let Q : Run g.row.K.Denot → Type 0 = λ x. RingAfter t (register_of t (open-memory a.self.now a.tracks.now (set a.runs.now r x) a.connections.now a.settings.now)) a.ring.now c.replace-run.new.ring (Err c.in-err-replace-run.field-0.0) in
+    let P : Run g.row.K.Denot → Type 0 = λ x. TimesAfter t (register_of t (open_memory a.self.now a.tracks.now (set a.runs.now r x) a.connections.now a.settings.now)) a.times.now c.replace-run.new.times (Err c.in-err-replace-run.field-0.0) in
+    let Q : Run g.row.K.Denot → Type 0 = λ x. RingAfter t (register_of t (open_memory a.self.now a.tracks.now (set a.runs.now r x) a.connections.now a.settings.now)) a.ring.now c.replace-run.new.ring (Err c.in-err-replace-run.field-0.0) in
     rw (p.1, p.2) (record {
-      reckons = reckoned_err t (hold-call-rows t l m a.times.now a.run a.until) (register_of t (hold-memory t m a.run (Some a.until))) Slip c.in-err-replace-run.field-0.0 c.in-ok-admit-hold.ensures.rows a.times.now c.replace-run.new.times a.ring.now c.replace-run.new.ring (subst P is told.times) (subst Q is told.ring);
+      reckons = reckoned_err t (hold_call_rows t l m a.times.now a.run a.until) (register_of t (hold_memory t m a.run (Some a.until))) Slip c.in-err-replace-run.field-0.0 c.in-ok-admit-hold.ensures.rows a.times.now c.replace-run.new.times a.ring.now c.replace-run.new.ring (subst P is told.times) (subst Q is told.ring);
       runs = told.runs;
       slip = tt;
     })
@@ -65,13 +65,13 @@ returns g c =
     let a = c.args in
     let r = a.run in
     let l = lengths (length a.times.now) (length a.ring.now) (length a.counts.now) (length a.sums.now) (length a.befores.now) (length a.floors.now) (length a.arcs.now) (length a.tables.now) (length a.marks.now) in
-    let m = open-memory a.self.now a.tracks.now a.runs.now a.connections.now a.settings.now in
+    let m = open_memory a.self.now a.tracks.now a.runs.now a.connections.now a.settings.now in
     let is : c.with-hold-marked.result ≡ holding (run_at t a.runs.now r) (Some a.until) = c.with-hold-marked.ensures ∙ ap (λ x. holding x (Some a.until)) c.run-of.ensures in
     let told = c.in-ok-replace-run.ensures in
-    let P : Run g.row.K.Denot → Type 0 = λ x. TimesAfter t (register_of t (open-memory a.self.now a.tracks.now (set a.runs.now r x) a.connections.now a.settings.now)) a.times.now c.replace-run.new.times (Ok tt) in
-    let Q : Run g.row.K.Denot → Type 0 = λ x. RingAfter t (register_of t (open-memory a.self.now a.tracks.now (set a.runs.now r x) a.connections.now a.settings.now)) a.ring.now c.replace-run.new.ring (Ok tt) in
+    let P : Run g.row.K.Denot → Type 0 = λ x. TimesAfter t (register_of t (open_memory a.self.now a.tracks.now (set a.runs.now r x) a.connections.now a.settings.now)) a.times.now c.replace-run.new.times (Ok tt) in
+    let Q : Run g.row.K.Denot → Type 0 = λ x. RingAfter t (register_of t (open_memory a.self.now a.tracks.now (set a.runs.now r x) a.connections.now a.settings.now)) a.ring.now c.replace-run.new.ring (Ok tt) in
     record {
-      reckons = reckoned_ok t (hold-call-rows t l m a.times.now a.run a.until) (register_of t (hold-memory t m a.run (Some a.until))) Slip (record { plan = a.self.now.number; run = a.run }) c.in-ok-admit-hold.ensures.rows a.times.now c.replace-run.new.times a.ring.now c.replace-run.new.ring (subst P is told.times) (subst Q is told.ring);
+      reckons = reckoned_ok t (hold_call_rows t l m a.times.now a.run a.until) (register_of t (hold_memory t m a.run (Some a.until))) Slip (record { plan = a.self.now.number; run = a.run }) c.in-ok-admit-hold.ensures.rows a.times.now c.replace-run.new.times a.ring.now c.replace-run.new.ring (subst P is told.times) (subst Q is told.ring);
       runs = told.runs ∙ ap (set a.runs.now r) is;
       slip = (refl, refl);
     }

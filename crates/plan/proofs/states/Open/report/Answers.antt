@@ -5,9 +5,9 @@ use Rattle.records.specs.Records.{run_at}
 use Rattle.records.specs.Register.{register_of}
 use Rattle.records.specs.Stored.{Stored}
 use Rattle.force.specs.Reckoned.{TimesAfter, RingAfter}
-use Rattle.plan.specs.States.{open-memory}
-use Rattle.plan.specs.Steps.{reported, report-memory}
-use Rattle.plan.specs.Calls.{lengths, report-call-rows}
+use Rattle.plan.specs.States.{open_memory}
+use Rattle.plan.specs.Steps.{reported, report_memory}
+use Rattle.plan.specs.Calls.{lengths, report_call_rows}
 use Rattle.plan.proofs.Reckoned.{reckoned, refused}
 use Rattle.plan.proofs.states.Open.report.Given as given
 use Rattle.plan.proofs.states.Open.report.Goals as goal
@@ -17,10 +17,10 @@ returns-in-err-admit-report g c =
     let t = g.K.Kind.time in
     let a = c.args in
     let l = lengths (length a.times.now) (length a.ring.now) (length a.counts.now) (length a.sums.now) (length a.befores.now) (length a.floors.now) (length a.arcs.now) (length a.tables.now) (length a.marks.now) in
-    let m = open-memory a.self.now a.tracks.now a.runs.now a.connections.now a.settings.now in
+    let m = open_memory a.self.now a.tracks.now a.runs.now a.connections.now a.settings.now in
     let p = err_from_is_err_and c.from-residual.result c.from-residual.ensures.1 in
     rw (p.1, p.2) (record {
-      reckons = refused t (report-call-rows t l m a.times.now a.event a.at) (register_of t (report-memory t m a.event a.at)) (Unit {0}) (omega arith, (omega arith, (omega arith, (omega arith, (omega arith, (omega arith, (omega arith, (omega arith, tt)))))))) a.times.now a.ring.now _ c.in-err-admit-report.ensures.rows;
+      reckons = refused t (report_call_rows t l m a.times.now a.event a.at) (register_of t (report_memory t m a.event a.at)) (Unit {0}) (omega arith, (omega arith, (omega arith, (omega arith, (omega arith, (omega arith, (omega arith, (omega arith, tt)))))))) a.times.now a.ring.now _ c.in-err-admit-report.ensures.rows;
       runs = refl;
     })
 
@@ -31,7 +31,7 @@ replace-run-requires g c =
     let ready = c.in-ok-admit-report.ensures.ready in
     let r = a.event / 2 in
     let is : c.with-report-marked.result ≡ reported (run_at t a.runs.now r) (a.event % 2) a.at = c.with-report-marked.ensures ∙ ap (λ x. reported x (a.event % 2) a.at) c.run-of.ensures in
-    let P : Run g.row.K.Denot → Type 0 = λ x. Stored t (open-memory a.self.now a.tracks.now (set a.runs.now r x) a.connections.now a.settings.now) in
+    let P : Run g.row.K.Denot → Type 0 = λ x. Stored t (open_memory a.self.now a.tracks.now (set a.runs.now r x) a.connections.now a.settings.now) in
     record {
       inside = ready.0;
       records = ready.1.records;
@@ -45,14 +45,14 @@ returns-in-err-replace-run g c =
     let a = c.args in
     let r = a.event / 2 in
     let l = lengths (length a.times.now) (length a.ring.now) (length a.counts.now) (length a.sums.now) (length a.befores.now) (length a.floors.now) (length a.arcs.now) (length a.tables.now) (length a.marks.now) in
-    let m = open-memory a.self.now a.tracks.now a.runs.now a.connections.now a.settings.now in
+    let m = open_memory a.self.now a.tracks.now a.runs.now a.connections.now a.settings.now in
     let is : c.with-report-marked.result ≡ reported (run_at t a.runs.now r) (a.event % 2) a.at = c.with-report-marked.ensures ∙ ap (λ x. reported x (a.event % 2) a.at) c.run-of.ensures in
     let p = err_from_is_err_and c.from-residual-in-err-replace-run.result c.from-residual-in-err-replace-run.ensures.1 in
     let told = c.in-err-replace-run.ensures in
-    let P : Run g.row.K.Denot → Type 0 = λ x. TimesAfter t (register_of t (open-memory a.self.now a.tracks.now (set a.runs.now r x) a.connections.now a.settings.now)) a.times.now c.replace-run.new.times (Err c.in-err-replace-run.field-0.0) in
-    let Q : Run g.row.K.Denot → Type 0 = λ x. RingAfter t (register_of t (open-memory a.self.now a.tracks.now (set a.runs.now r x) a.connections.now a.settings.now)) a.ring.now c.replace-run.new.ring (Err c.in-err-replace-run.field-0.0) in
+    let P : Run g.row.K.Denot → Type 0 = λ x. TimesAfter t (register_of t (open_memory a.self.now a.tracks.now (set a.runs.now r x) a.connections.now a.settings.now)) a.times.now c.replace-run.new.times (Err c.in-err-replace-run.field-0.0) in
+    let Q : Run g.row.K.Denot → Type 0 = λ x. RingAfter t (register_of t (open_memory a.self.now a.tracks.now (set a.runs.now r x) a.connections.now a.settings.now)) a.ring.now c.replace-run.new.ring (Err c.in-err-replace-run.field-0.0) in
     rw (p.1, p.2) (record {
-      reckons = reckoned t (report-call-rows t l m a.times.now a.event a.at) (register_of t (report-memory t m a.event a.at)) c.in-ok-admit-report.ensures.rows a.times.now c.replace-run.new.times a.ring.now c.replace-run.new.ring (Err c.in-err-replace-run.field-0.0) (subst P is told.times) (subst Q is told.ring);
+      reckons = reckoned t (report_call_rows t l m a.times.now a.event a.at) (register_of t (report_memory t m a.event a.at)) c.in-ok-admit-report.ensures.rows a.times.now c.replace-run.new.times a.ring.now c.replace-run.new.ring (Err c.in-err-replace-run.field-0.0) (subst P is told.times) (subst Q is told.ring);
       runs = told.runs;
     })
 
@@ -62,12 +62,12 @@ returns g c =
     let a = c.args in
     let r = a.event / 2 in
     let l = lengths (length a.times.now) (length a.ring.now) (length a.counts.now) (length a.sums.now) (length a.befores.now) (length a.floors.now) (length a.arcs.now) (length a.tables.now) (length a.marks.now) in
-    let m = open-memory a.self.now a.tracks.now a.runs.now a.connections.now a.settings.now in
+    let m = open_memory a.self.now a.tracks.now a.runs.now a.connections.now a.settings.now in
     let is : c.with-report-marked.result ≡ reported (run_at t a.runs.now r) (a.event % 2) a.at = c.with-report-marked.ensures ∙ ap (λ x. reported x (a.event % 2) a.at) c.run-of.ensures in
     let told = c.in-ok-replace-run.ensures in
-    let P : Run g.row.K.Denot → Type 0 = λ x. TimesAfter t (register_of t (open-memory a.self.now a.tracks.now (set a.runs.now r x) a.connections.now a.settings.now)) a.times.now c.replace-run.new.times (Ok tt) in
-    let Q : Run g.row.K.Denot → Type 0 = λ x. RingAfter t (register_of t (open-memory a.self.now a.tracks.now (set a.runs.now r x) a.connections.now a.settings.now)) a.ring.now c.replace-run.new.ring (Ok tt) in
+    let P : Run g.row.K.Denot → Type 0 = λ x. TimesAfter t (register_of t (open_memory a.self.now a.tracks.now (set a.runs.now r x) a.connections.now a.settings.now)) a.times.now c.replace-run.new.times (Ok tt) in
+    let Q : Run g.row.K.Denot → Type 0 = λ x. RingAfter t (register_of t (open_memory a.self.now a.tracks.now (set a.runs.now r x) a.connections.now a.settings.now)) a.ring.now c.replace-run.new.ring (Ok tt) in
     record {
-      reckons = reckoned t (report-call-rows t l m a.times.now a.event a.at) (register_of t (report-memory t m a.event a.at)) c.in-ok-admit-report.ensures.rows a.times.now c.replace-run.new.times a.ring.now c.replace-run.new.ring (Ok tt) (subst P is told.times) (subst Q is told.ring);
+      reckons = reckoned t (report_call_rows t l m a.times.now a.event a.at) (register_of t (report_memory t m a.event a.at)) c.in-ok-admit-report.ensures.rows a.times.now c.replace-run.new.times a.ring.now c.replace-run.new.ring (Ok tt) (subst P is told.times) (subst Q is told.ring);
       runs = told.runs ∙ ap (set a.runs.now r) is;
     }

@@ -6,9 +6,9 @@ use Rattle.network.specs.Refusals.{First, Passed}
 use Rattle.network.proofs.Refusals.{first_front, first_more, passed_more}
 use Rattle.records.specs.Register.{Memory, seen, front, all_of, register_of}
 use Rattle.rules.specs.Faults.{plan_number, plan_place}
-use Rattle.rules.specs.Rows.{open-rows, switch-rows, setting-of, SoundOpen}
-use Rattle.cost.specs.Cost.{delay-cost}
-use Rattle.plan.specs.States.{open-memory}
+use Rattle.rules.specs.Rows.{open_rows, switch_rows, setting_of_lem, SoundOpen}
+use Rattle.cost.specs.Cost.{delay_cost_lem}
+use Rattle.plan.specs.States.{open_memory}
 use Rattle.plan.proofs.states.Open.setting.Given as given
 use Rattle.plan.proofs.states.Open.setting.Goals as goal
 
@@ -16,33 +16,33 @@ pub returns-in-err-check-open : goal.returns-in-err-check-open
 returns-in-err-check-open g c =
     let t = g.K.Kind.time in
     let a = c.args in
-    let m = open-memory a.self.now a.tracks.now a.runs.now a.connections.now a.settings.now in
+    let m = open_memory a.self.now a.tracks.now a.runs.now a.connections.now a.settings.now in
     let p = err_from_is_err_and c.from-residual.result c.from-residual.ensures.1 in
     let f = c.in-err-check-open.field-0.0 in
-    let P : Memory g.row.K.Denot → Type 0 = λ x. First (open-rows t x a.times.now) (plan_number f) (plan_place f) in
-    rw (p.1, p.2) (record { rows = first_front (open-rows t m a.times.now) (switch-rows t (register_of t m) a.switch) _ _ (subst P c.open-view-v.ensures c.in-err-check-open.ensures.rows); value = tt })
+    let P : Memory g.row.K.Denot → Type 0 = λ x. First (open_rows t x a.times.now) (plan_number f) (plan_place f) in
+    rw (p.1, p.2) (record { rows = first_front (open_rows t m a.times.now) (switch_rows t (register_of t m) a.switch) _ _ (subst P c.open-view-v.ensures c.in-err-check-open.ensures.rows); value = tt })
 
 pub returns-in-err-check-switch : goal.returns-in-err-check-switch
 returns-in-err-check-switch g c =
     let t = g.K.Kind.time in
     let a = c.args in
-    let m = open-memory a.self.now a.tracks.now a.runs.now a.connections.now a.settings.now in
+    let m = open_memory a.self.now a.tracks.now a.runs.now a.connections.now a.settings.now in
     let is : seen c.entered-v.result ≡ front m = c.entered-v.ensures ∙ ap front c.open-view-v.ensures in
     let p = err_from_is_err_and c.from-residual-in-err-check-switch.result c.from-residual-in-err-check-switch.ensures.1 in
     let f = c.in-err-check-switch.field-0.0 in
-    let O : Memory g.row.K.Denot → Type 0 = λ x. Passed (open-rows t x a.times.now) in
-    let P : Memory g.row.K.Denot → Type 0 = λ x. First (switch-rows t (all_of t x) a.switch) (plan_number f) (plan_place f) in
-    rw (p.1, p.2) (record { rows = first_more (open-rows t m a.times.now) (switch-rows t (register_of t m) a.switch) _ _ (subst O c.open-view-v.ensures c.in-ok-check-open.ensures.rows) (subst P is c.in-err-check-switch.ensures); value = tt })
+    let O : Memory g.row.K.Denot → Type 0 = λ x. Passed (open_rows t x a.times.now) in
+    let P : Memory g.row.K.Denot → Type 0 = λ x. First (switch_rows t (all_of t x) a.switch) (plan_number f) (plan_place f) in
+    rw (p.1, p.2) (record { rows = first_more (open_rows t m a.times.now) (switch_rows t (register_of t m) a.switch) _ _ (subst O c.open-view-v.ensures c.in-ok-check-open.ensures.rows) (subst P is c.in-err-check-switch.ensures); value = tt })
 
 pub returns : goal.returns
 returns g c =
     let t = g.K.Kind.time in
     let a = c.args in
-    let m = open-memory a.self.now a.tracks.now a.runs.now a.connections.now a.settings.now in
+    let m = open_memory a.self.now a.tracks.now a.runs.now a.connections.now a.settings.now in
     let is : seen c.entered-v.result ≡ front m = c.entered-v.ensures ∙ ap front c.open-view-v.ensures in
-    let O : Memory g.row.K.Denot → Type 0 = λ x. Passed (open-rows t x a.times.now) in
-    let P : Memory g.row.K.Denot → Type 0 = λ x. Passed (switch-rows t (all_of t x) a.switch) in
+    let O : Memory g.row.K.Denot → Type 0 = λ x. Passed (open_rows t x a.times.now) in
+    let P : Memory g.row.K.Denot → Type 0 = λ x. Passed (switch_rows t (all_of t x) a.switch) in
     record {
-      rows = passed_more (open-rows t m a.times.now) (switch-rows t (register_of t m) a.switch) (subst O c.open-view-v.ensures c.in-ok-check-open.ensures.rows) (subst P is c.in-ok-check-switch.ensures);
-      value = c.setting-of.ensures ∙ ap (λ x. setting-of t (all_of t x) a.switch) is;
+      rows = passed_more (open_rows t m a.times.now) (switch_rows t (register_of t m) a.switch) (subst O c.open-view-v.ensures c.in-ok-check-open.ensures.rows) (subst P is c.in-ok-check-switch.ensures);
+      value = c.setting-of.ensures ∙ ap (λ x. setting_of_lem t (all_of t x) a.switch) is;
     }

@@ -6,9 +6,9 @@ use Rattle.network.specs.Refusals.{First, Passed}
 use Rattle.network.proofs.Refusals.{first_front, first_more, passed_more}
 use Rattle.records.specs.Register.{Memory, seen, front, all_of, register_of}
 use Rattle.rules.specs.Faults.{plan_number, plan_place}
-use Rattle.rules.specs.Rows.{open-rows, event-rows, SoundOpen}
+use Rattle.rules.specs.Rows.{open_rows, event_rows, SoundOpen}
 use Rattle.rules.proofs.Rows.{event_passed}
-use Rattle.plan.specs.States.{open-memory}
+use Rattle.plan.specs.States.{open_memory}
 use Rattle.plan.proofs.states.Open.time.Given as given
 use Rattle.plan.proofs.states.Open.time.Goals as goal
 
@@ -16,32 +16,32 @@ pub returns-in-err-check-open : goal.returns-in-err-check-open
 returns-in-err-check-open g c =
     let t = g.K.Kind.time in
     let a = c.args in
-    let m = open-memory a.self.now a.tracks.now a.runs.now a.connections.now a.settings.now in
+    let m = open_memory a.self.now a.tracks.now a.runs.now a.connections.now a.settings.now in
     let p = err_from_is_err_and c.from-residual.result c.from-residual.ensures.1 in
     let f = c.in-err-check-open.field-0.0 in
-    let P : Memory g.row.K.Denot → Type 0 = λ x. First (open-rows t x a.times.now) (plan_number f) (plan_place f) in
-    rw (p.1, p.2) (record { rows = first_front (open-rows t m a.times.now) (event-rows t (register_of t m) a.event) _ _ (subst P c.open-view-v.ensures c.in-err-check-open.ensures.rows); value = tt })
+    let P : Memory g.row.K.Denot → Type 0 = λ x. First (open_rows t x a.times.now) (plan_number f) (plan_place f) in
+    rw (p.1, p.2) (record { rows = first_front (open_rows t m a.times.now) (event_rows t (register_of t m) a.event) _ _ (subst P c.open-view-v.ensures c.in-err-check-open.ensures.rows); value = tt })
 
 pub returns-in-err-check-event : goal.returns-in-err-check-event
 returns-in-err-check-event g c =
     let t = g.K.Kind.time in
     let a = c.args in
-    let m = open-memory a.self.now a.tracks.now a.runs.now a.connections.now a.settings.now in
+    let m = open_memory a.self.now a.tracks.now a.runs.now a.connections.now a.settings.now in
     let is : seen c.entered.result ≡ front m = c.entered.ensures ∙ ap front c.open-view-v.ensures in
     let p = err_from_is_err_and c.from-residual-in-err-check-event.result c.from-residual-in-err-check-event.ensures.1 in
     let f = c.in-err-check-event.field-0.0 in
-    let O : Memory g.row.K.Denot → Type 0 = λ x. Passed (open-rows t x a.times.now) in
-    let P : Memory g.row.K.Denot → Type 0 = λ x. First (event-rows t (all_of t x) a.event) (plan_number f) (plan_place f) in
-    rw (p.1, p.2) (record { rows = first_more (open-rows t m a.times.now) (event-rows t (register_of t m) a.event) _ _ (subst O c.open-view-v.ensures c.in-ok-check-open.ensures.rows) (subst P is c.in-err-check-event.ensures); value = tt })
+    let O : Memory g.row.K.Denot → Type 0 = λ x. Passed (open_rows t x a.times.now) in
+    let P : Memory g.row.K.Denot → Type 0 = λ x. First (event_rows t (all_of t x) a.event) (plan_number f) (plan_place f) in
+    rw (p.1, p.2) (record { rows = first_more (open_rows t m a.times.now) (event_rows t (register_of t m) a.event) _ _ (subst O c.open-view-v.ensures c.in-ok-check-open.ensures.rows) (subst P is c.in-err-check-event.ensures); value = tt })
 
 pub returns : goal.returns
 returns g c =
     let t = g.K.Kind.time in
     let a = c.args in
-    let m = open-memory a.self.now a.tracks.now a.runs.now a.connections.now a.settings.now in
+    let m = open_memory a.self.now a.tracks.now a.runs.now a.connections.now a.settings.now in
     let is : seen c.entered.result ≡ front m = c.entered.ensures ∙ ap front c.open-view-v.ensures in
-    let O : Memory g.row.K.Denot → Type 0 = λ x. Passed (open-rows t x a.times.now) in
-    let P : Memory g.row.K.Denot → Type 0 = λ x. Passed (event-rows t (all_of t x) a.event) in
+    let O : Memory g.row.K.Denot → Type 0 = λ x. Passed (open_rows t x a.times.now) in
+    let P : Memory g.row.K.Denot → Type 0 = λ x. Passed (event_rows t (all_of t x) a.event) in
     let sound = c.in-ok-check-open.ensures.sound in
     let R = all_of t (seen c.entered.result) in
     let known = event_passed t R a.event c.in-ok-check-event.ensures in
@@ -49,6 +49,6 @@ returns g c =
     let few : length R.runs ≤ 512 = subst S (sym c.entered.ensures) sound.stored.limits.few_runs in
     let long = sound.long in
     record {
-      rows = passed_more (open-rows t m a.times.now) (event-rows t (register_of t m) a.event) (subst O c.open-view-v.ensures c.in-ok-check-open.ensures.rows) (subst P is c.in-ok-check-event.ensures);
+      rows = passed_more (open_rows t m a.times.now) (event_rows t (register_of t m) a.event) (subst O c.open-view-v.ensures c.in-ok-check-open.ensures.rows) (subst P is c.in-ok-check-event.ensures);
       value = get_or_read a.times.now a.event _ (omega arith) c.index-times-event.is t.none;
     }

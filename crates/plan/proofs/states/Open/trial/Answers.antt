@@ -4,10 +4,10 @@ use Rattle.records.specs.Register.{register_of}
 use Rattle.records.specs.Stored.{Stored}
 use Rattle.force.specs.Reckoned.{TimesAfter, RingAfter}
 use Rattle.network.specs.Reckoning.{at}
-use Rattle.cost.specs.Cost.{delay-cost}
-use Rattle.plan.specs.States.{open-memory}
-use Rattle.plan.specs.Steps.{switch-memory}
-use Rattle.plan.specs.Calls.{lengths, turning-call-rows}
+use Rattle.cost.specs.Cost.{delay_cost_lem}
+use Rattle.plan.specs.States.{open_memory}
+use Rattle.plan.specs.Steps.{switch_memory}
+use Rattle.plan.specs.Calls.{lengths, turning_call_rows}
 use Rattle.plan.proofs.Reckoned.{reckoned_ok, reckoned_err, refused, turning_under}
 use Rattle.plan.proofs.states.Open.trial.Given as given
 use Rattle.plan.proofs.states.Open.trial.Goals as goal
@@ -17,10 +17,10 @@ returns-in-err-place g c =
     let t = g.K.Kind.time in
     let a = c.args in
     let l = lengths (length a.trial.now) (length a.ring.now) (length a.counts.now) (length a.sums.now) (length a.befores.now) (length a.floors.now) (length a.arcs.now) (length a.tables.now) (length a.marks.now) in
-    let m = open-memory a.self.now a.tracks.now a.runs.now a.connections.now a.settings.now in
+    let m = open_memory a.self.now a.tracks.now a.runs.now a.connections.now a.settings.now in
     let p = err_from_is_err_and c.from-residual.result c.from-residual.ensures.1 in
     rw (p.1, p.2) (record {
-      reckons = refused t (turning-call-rows t l m a.times.now a.switch a.setting) (register_of t (switch-memory t m a.switch a.setting)) ℕ (turning_under t l m a.times.now a.switch a.setting) a.trial.now a.ring.now _ c.in-err-place.ensures.rows;
+      reckons = refused t (turning_call_rows t l m a.times.now a.switch a.setting) (register_of t (switch_memory t m a.switch a.setting)) ℕ (turning_under t l m a.times.now a.switch a.setting) a.trial.now a.ring.now _ c.in-err-place.ensures.rows;
       cost = tt;
       settings = refl;
     })
@@ -30,7 +30,7 @@ try-setting-requires g c =
     let t = g.K.Kind.time in
     let a = c.args in
     let ready = c.in-ok-place.ensures.ready in
-    let P : ℕ → Type 0 = λ p. Stored t (open-memory a.self.now a.tracks.now a.runs.now a.connections.now (set a.settings.now p a.setting)) in
+    let P : ℕ → Type 0 = λ p. Stored t (open_memory a.self.now a.tracks.now a.runs.now a.connections.now (set a.settings.now p a.setting)) in
     record {
       inside = ready.1;
       records = ready.2.records;
@@ -43,14 +43,14 @@ returns-in-err-cost g c =
     let t = g.K.Kind.time in
     let a = c.args in
     let l = lengths (length a.trial.now) (length a.ring.now) (length a.counts.now) (length a.sums.now) (length a.befores.now) (length a.floors.now) (length a.arcs.now) (length a.tables.now) (length a.marks.now) in
-    let m = open-memory a.self.now a.tracks.now a.runs.now a.connections.now a.settings.now in
+    let m = open_memory a.self.now a.tracks.now a.runs.now a.connections.now a.settings.now in
     let is = c.in-ok-place.ensures.ready.0 in
     let p = err_from_is_err_and c.from-residual-in-err-cost.result c.from-residual-in-err-cost.ensures.1 in
     let told = c.in-err-cost.ensures in
-    let P : ℕ → Type 0 = λ x. TimesAfter t (register_of t (open-memory a.self.now a.tracks.now a.runs.now a.connections.now (set a.settings.now x a.setting))) a.trial.now c.try-setting.new.trial (Err c.in-err-cost.field-0.0) in
-    let Q : ℕ → Type 0 = λ x. RingAfter t (register_of t (open-memory a.self.now a.tracks.now a.runs.now a.connections.now (set a.settings.now x a.setting))) a.ring.now c.try-setting.new.ring (Err c.in-err-cost.field-0.0) in
+    let P : ℕ → Type 0 = λ x. TimesAfter t (register_of t (open_memory a.self.now a.tracks.now a.runs.now a.connections.now (set a.settings.now x a.setting))) a.trial.now c.try-setting.new.trial (Err c.in-err-cost.field-0.0) in
+    let Q : ℕ → Type 0 = λ x. RingAfter t (register_of t (open_memory a.self.now a.tracks.now a.runs.now a.connections.now (set a.settings.now x a.setting))) a.ring.now c.try-setting.new.ring (Err c.in-err-cost.field-0.0) in
     rw (p.1, p.2) (record {
-      reckons = reckoned_err t (turning-call-rows t l m a.times.now a.switch a.setting) (register_of t (switch-memory t m a.switch a.setting)) ℕ c.in-err-cost.field-0.0 c.in-ok-place.ensures.rows a.trial.now c.try-setting.new.trial a.ring.now c.try-setting.new.ring (subst P is told.times) (subst Q is told.ring);
+      reckons = reckoned_err t (turning_call_rows t l m a.times.now a.switch a.setting) (register_of t (switch_memory t m a.switch a.setting)) ℕ c.in-err-cost.field-0.0 c.in-ok-place.ensures.rows a.trial.now c.try-setting.new.trial a.ring.now c.try-setting.new.ring (subst P is told.times) (subst Q is told.ring);
       cost = tt;
       settings = told.settings;
     })
@@ -60,13 +60,13 @@ returns g c =
     let t = g.K.Kind.time in
     let a = c.args in
     let l = lengths (length a.trial.now) (length a.ring.now) (length a.counts.now) (length a.sums.now) (length a.befores.now) (length a.floors.now) (length a.arcs.now) (length a.tables.now) (length a.marks.now) in
-    let m = open-memory a.self.now a.tracks.now a.runs.now a.connections.now a.settings.now in
+    let m = open_memory a.self.now a.tracks.now a.runs.now a.connections.now a.settings.now in
     let is = c.in-ok-place.ensures.ready.0 in
     let told = c.in-ok-cost.ensures in
-    let P : ℕ → Type 0 = λ x. TimesAfter t (register_of t (open-memory a.self.now a.tracks.now a.runs.now a.connections.now (set a.settings.now x a.setting))) a.trial.now c.try-setting.new.trial (Ok tt) in
-    let Q : ℕ → Type 0 = λ x. RingAfter t (register_of t (open-memory a.self.now a.tracks.now a.runs.now a.connections.now (set a.settings.now x a.setting))) a.ring.now c.try-setting.new.ring (Ok tt) in
+    let P : ℕ → Type 0 = λ x. TimesAfter t (register_of t (open_memory a.self.now a.tracks.now a.runs.now a.connections.now (set a.settings.now x a.setting))) a.trial.now c.try-setting.new.trial (Ok tt) in
+    let Q : ℕ → Type 0 = λ x. RingAfter t (register_of t (open_memory a.self.now a.tracks.now a.runs.now a.connections.now (set a.settings.now x a.setting))) a.ring.now c.try-setting.new.ring (Ok tt) in
     record {
-      reckons = reckoned_ok t (turning-call-rows t l m a.times.now a.switch a.setting) (register_of t (switch-memory t m a.switch a.setting)) ℕ _ c.in-ok-place.ensures.rows a.trial.now c.try-setting.new.trial a.ring.now c.try-setting.new.ring (subst P is told.times) (subst Q is told.ring);
-      cost = told.cost ∙ ap (λ x. delay-cost t (register_of t (open-memory a.self.now a.tracks.now a.runs.now a.connections.now (set a.settings.now x a.setting))) (at t c.try-setting.new.trial)) is;
+      reckons = reckoned_ok t (turning_call_rows t l m a.times.now a.switch a.setting) (register_of t (switch_memory t m a.switch a.setting)) ℕ _ c.in-ok-place.ensures.rows a.trial.now c.try-setting.new.trial a.ring.now c.try-setting.new.ring (subst P is told.times) (subst Q is told.ring);
+      cost = told.cost ∙ ap (λ x. delay_cost_lem t (register_of t (open_memory a.self.now a.tracks.now a.runs.now a.connections.now (set a.settings.now x a.setting))) (at t c.try-setting.new.trial)) is;
       settings = told.settings;
     }

@@ -3,9 +3,9 @@ use Rattle.std.proofs.lemmas.Result.{err_from_is_err_and}
 use Rattle.records.specs.Register.{register_of}
 use Rattle.records.specs.Stored.{Stored}
 use Rattle.force.specs.Reckoned.{TimesAfter, RingAfter}
-use Rattle.plan.specs.States.{open-memory}
-use Rattle.plan.specs.Steps.{switch-memory}
-use Rattle.plan.specs.Calls.{lengths, turning-call-rows}
+use Rattle.plan.specs.States.{open_memory}
+use Rattle.plan.specs.Steps.{switch_memory}
+use Rattle.plan.specs.Calls.{lengths, turning_call_rows}
 use Rattle.plan.proofs.Reckoned.{reckoned, refused, turning_under}
 use Rattle.plan.proofs.states.Open.turn.Given as given
 use Rattle.plan.proofs.states.Open.turn.Goals as goal
@@ -15,10 +15,10 @@ returns-in-err-place g c =
     let t = g.K.Kind.time in
     let a = c.args in
     let l = lengths (length a.times.now) (length a.ring.now) (length a.counts.now) (length a.sums.now) (length a.befores.now) (length a.floors.now) (length a.arcs.now) (length a.tables.now) (length a.marks.now) in
-    let m = open-memory a.self.now a.tracks.now a.runs.now a.connections.now a.settings.now in
+    let m = open_memory a.self.now a.tracks.now a.runs.now a.connections.now a.settings.now in
     let p = err_from_is_err_and c.from-residual.result c.from-residual.ensures.1 in
     rw (p.1, p.2) (record {
-      reckons = refused t (turning-call-rows t l m a.times.now a.switch a.setting) (register_of t (switch-memory t m a.switch a.setting)) (Unit {0}) (turning_under t l m a.times.now a.switch a.setting) a.times.now a.ring.now _ c.in-err-place.ensures.rows;
+      reckons = refused t (turning_call_rows t l m a.times.now a.switch a.setting) (register_of t (switch_memory t m a.switch a.setting)) (Unit {0}) (turning_under t l m a.times.now a.switch a.setting) a.times.now a.ring.now _ c.in-err-place.ensures.rows;
       settings = refl;
     })
 
@@ -27,7 +27,7 @@ replace-setting-requires g c =
     let t = g.K.Kind.time in
     let a = c.args in
     let ready = c.in-ok-place.ensures.ready in
-    let P : ℕ → Type 0 = λ p. Stored t (open-memory a.self.now a.tracks.now a.runs.now a.connections.now (set a.settings.now p a.setting)) in
+    let P : ℕ → Type 0 = λ p. Stored t (open_memory a.self.now a.tracks.now a.runs.now a.connections.now (set a.settings.now p a.setting)) in
     record {
       inside = ready.1;
       records = ready.2.records;
@@ -40,14 +40,14 @@ returns-in-err-replace-setting g c =
     let t = g.K.Kind.time in
     let a = c.args in
     let l = lengths (length a.times.now) (length a.ring.now) (length a.counts.now) (length a.sums.now) (length a.befores.now) (length a.floors.now) (length a.arcs.now) (length a.tables.now) (length a.marks.now) in
-    let m = open-memory a.self.now a.tracks.now a.runs.now a.connections.now a.settings.now in
+    let m = open_memory a.self.now a.tracks.now a.runs.now a.connections.now a.settings.now in
     let is = c.in-ok-place.ensures.ready.0 in
     let p = err_from_is_err_and c.from-residual-in-err-replace-setting.result c.from-residual-in-err-replace-setting.ensures.1 in
     let told = c.in-err-replace-setting.ensures in
-    let P : ℕ → Type 0 = λ x. TimesAfter t (register_of t (open-memory a.self.now a.tracks.now a.runs.now a.connections.now (set a.settings.now x a.setting))) a.times.now c.replace-setting.new.times (Err c.in-err-replace-setting.field-0.0) in
-    let Q : ℕ → Type 0 = λ x. RingAfter t (register_of t (open-memory a.self.now a.tracks.now a.runs.now a.connections.now (set a.settings.now x a.setting))) a.ring.now c.replace-setting.new.ring (Err c.in-err-replace-setting.field-0.0) in
+    let P : ℕ → Type 0 = λ x. TimesAfter t (register_of t (open_memory a.self.now a.tracks.now a.runs.now a.connections.now (set a.settings.now x a.setting))) a.times.now c.replace-setting.new.times (Err c.in-err-replace-setting.field-0.0) in
+    let Q : ℕ → Type 0 = λ x. RingAfter t (register_of t (open_memory a.self.now a.tracks.now a.runs.now a.connections.now (set a.settings.now x a.setting))) a.ring.now c.replace-setting.new.ring (Err c.in-err-replace-setting.field-0.0) in
     rw (p.1, p.2) (record {
-      reckons = reckoned t (turning-call-rows t l m a.times.now a.switch a.setting) (register_of t (switch-memory t m a.switch a.setting)) c.in-ok-place.ensures.rows a.times.now c.replace-setting.new.times a.ring.now c.replace-setting.new.ring (Err c.in-err-replace-setting.field-0.0) (subst P is told.times) (subst Q is told.ring);
+      reckons = reckoned t (turning_call_rows t l m a.times.now a.switch a.setting) (register_of t (switch_memory t m a.switch a.setting)) c.in-ok-place.ensures.rows a.times.now c.replace-setting.new.times a.ring.now c.replace-setting.new.ring (Err c.in-err-replace-setting.field-0.0) (subst P is told.times) (subst Q is told.ring);
       settings = told.settings;
     })
 
@@ -56,12 +56,12 @@ returns g c =
     let t = g.K.Kind.time in
     let a = c.args in
     let l = lengths (length a.times.now) (length a.ring.now) (length a.counts.now) (length a.sums.now) (length a.befores.now) (length a.floors.now) (length a.arcs.now) (length a.tables.now) (length a.marks.now) in
-    let m = open-memory a.self.now a.tracks.now a.runs.now a.connections.now a.settings.now in
+    let m = open_memory a.self.now a.tracks.now a.runs.now a.connections.now a.settings.now in
     let is = c.in-ok-place.ensures.ready.0 in
     let told = c.in-ok-replace-setting.ensures in
-    let P : ℕ → Type 0 = λ x. TimesAfter t (register_of t (open-memory a.self.now a.tracks.now a.runs.now a.connections.now (set a.settings.now x a.setting))) a.times.now c.replace-setting.new.times (Ok tt) in
-    let Q : ℕ → Type 0 = λ x. RingAfter t (register_of t (open-memory a.self.now a.tracks.now a.runs.now a.connections.now (set a.settings.now x a.setting))) a.ring.now c.replace-setting.new.ring (Ok tt) in
+    let P : ℕ → Type 0 = λ x. TimesAfter t (register_of t (open_memory a.self.now a.tracks.now a.runs.now a.connections.now (set a.settings.now x a.setting))) a.times.now c.replace-setting.new.times (Ok tt) in
+    let Q : ℕ → Type 0 = λ x. RingAfter t (register_of t (open_memory a.self.now a.tracks.now a.runs.now a.connections.now (set a.settings.now x a.setting))) a.ring.now c.replace-setting.new.ring (Ok tt) in
     record {
-      reckons = reckoned t (turning-call-rows t l m a.times.now a.switch a.setting) (register_of t (switch-memory t m a.switch a.setting)) c.in-ok-place.ensures.rows a.times.now c.replace-setting.new.times a.ring.now c.replace-setting.new.ring (Ok tt) (subst P is told.times) (subst Q is told.ring);
+      reckons = reckoned t (turning_call_rows t l m a.times.now a.switch a.setting) (register_of t (switch_memory t m a.switch a.setting)) c.in-ok-place.ensures.rows a.times.now c.replace-setting.new.times a.ring.now c.replace-setting.new.ring (Ok tt) (subst P is told.times) (subst Q is told.ring);
       settings = told.settings ∙ ap (λ x. set a.settings.now x a.setting) is;
     }
