@@ -111,7 +111,7 @@ module _ {K : Type 0} {t : Time K} (laws : Laws t) (n : ℕ) (arcs : List (Arc K
         foremost = b.1.foremost;
         front = w.front;
         back = w.back;
-        circuit_is = ap reverse same ∙ w.circuit-is;
+        circuit_is = ap reverse same ∙ w.circuit_is;
         named = w.named;
         smallest = w.smallest;
       }

@@ -33,7 +33,7 @@ module _ {K : Type 0} {t : Time K} {floors : List K} {arcs : List (Arc K)} {rows
     arc = get_or rows ((length floors - 1 - i) * length floors + u) 0
 
     pub turn_room : i < length floors
-    turn_room = let p = c.path-long in let q = c.low in room arcs (length floors) seen path i u c.few c.seen-long c.traced.inside fresh (omega arith) c.low c.marks
+    turn_room = let p = c.path_long in let q = c.low in room arcs (length floors) seen path i u c.few c.seen_long c.traced.inside fresh (omega arith) c.low c.marks
 
     pub turn_row : (length floors - 1 - i) * length floors + u < length rows
     turn_row = let h = turn_room in let p = c.rows_long in let q = c.traced.inside in omega (arith, mul-add-lt (length floors - 1 - i) (length floors) u (length floors) (omega arith) q)
@@ -45,7 +45,7 @@ module _ {K : Type 0} {t : Time K} {floors : List K} {arcs : List (Arc K)} {rows
     is_f = row_read (length floors) rows (length floors - 1 - i) u c.traced.inside
 
     in_path : i < length path
-    in_path = let h = turn_room in let p = c.path-long in omega arith
+    in_path = let h = turn_room in let p = c.path_long in omega arith
 
     pub turn_arc : get_or rows ((length floors - 1 - i) * length floors + u) 0 < length arcs
     turn_arc = traced_arc c.laws floors arcs c.sound c.sized c.few rows v i u (length floors - 1 - i) _ path c.levels c.traced is_k is_f in_path
@@ -58,13 +58,13 @@ module _ {K : Type 0} {t : Time K} {floors : List K} {arcs : List (Arc K)} {rows
     pub turn_marks : Marks t arcs (length floors) (set seen u i) (set path i (get_or rows ((length floors - 1 - i) * length floors + u) 0)) (i + 1)
     turn_marks =
         let end = traced_end c.laws floors arcs c.sound c.sized c.few rows v i u (length floors - 1 - i) _ path c.levels c.traced is_k is_f in_path in
-        let p = c.path-long in let q = c.low in
-        marks_more arcs (length floors) seen path i u c.few c.seen-long c.traced.inside fresh (omega arith) c.low c.marks _ in_path end
+        let p = c.path_long in let q = c.low in
+        marks_more arcs (length floors) seen path i u c.few c.seen_long c.traced.inside fresh (omega arith) c.low c.marks _ in_path end
 
   -- the trace ends at a marked event
   ended_by : (s : ℕ) → (s ≡ 65535 → ⊥) → Mark t arcs path i u s → (s < i) × (i ≤ length floors) × Ring t (placed t arcs) (drop s (take i path))
   ended_by s ne (inl p) = absurd (ne p)
-  ended_by s ne (inr p) = let l = c.path-long in let q = c.low in (p.0, c.low, ring_is c.laws floors arcs c.sound c.sized c.few rows path v i u s c.traced p.0 (omega arith) p.1 (λ e. get_or seen e 0) c.marks.mark)
+  ended_by s ne (inr p) = let l = c.path_long in let q = c.low in (p.0, c.low, ring_is c.laws floors arcs c.sound c.sized c.few rows path v i u s c.traced p.0 (omega arith) p.1 (λ e. get_or seen e 0) c.marks.mark)
 
   pub turn_ends : (get_or seen u 0 ≡ 65535 → ⊥) → (get_or seen u 0 < i) × (i ≤ length floors) × Ring t (placed t arcs) (drop (get_or seen u 0) (take i path))
   turn_ends ne = ended_by (get_or seen u 0) ne (c.marks.back u c.traced.inside)

@@ -6,8 +6,8 @@ use Rattle.records.specs.Stored.{Limits, Shown}
 use Rattle.cost.specs.Cost.{delay_cost_lem}
 use Rattle.cost.proofs.delay_cost.Goals as goal
 
-pub cost-of-requires : goal.cost-of-requires
-cost-of-requires g c =
+pub cost_of-requires : goal.cost_of-requires
+cost_of-requires g c =
     let t = g.K.Kind.time in
     let v = c.args.v in
     let P : Memory g.row.K.Denot → Type 0 = λ m. Limits t (all_of t m) in
@@ -23,5 +23,5 @@ cost-of-requires g c =
 pub returns : goal.returns
 returns g c =
     let t = g.K.Kind.time in
-    let P : Memory g.row.K.Denot → Type 0 = λ m. c.cost-of.result ≡ delay_cost_lem t (all_of t m) (at t c.args.times.now) in
-    subst P c.entered.ensures c.cost-of.ensures
+    let P : Memory g.row.K.Denot → Type 0 = λ m. c.cost_of.result ≡ delay_cost_lem t (all_of t m) (at t c.args.times.now) in
+    subst P c.entered.ensures c.cost_of.ensures

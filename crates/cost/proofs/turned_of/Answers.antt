@@ -8,9 +8,9 @@ use Rattle.cost.proofs.Parts.{turn_is, penalty_is, penalty_small}
 use Rattle.cost.proofs.Turned.{turned_start, turned_back}
 use Rattle.cost.proofs.turned_of.Goals as goal
 
-pub track-of-penalty-requires : goal.track-of-penalty-requires
-track-of-penalty-requires g c =
-    let e = ap (λ r. r.track) c.run-of.ensures in
+pub track_of-penalty-requires : goal.track_of-penalty-requires
+track_of-penalty-requires g c =
+    let e = ap (λ r. r.track) c.run_of.ensures in
     let h = (c.requires.limits.0.runs.each c.args.j c.requires.inside).0.1.0 in omega arith
 
 pub loop-past-init : goal.loop-past-init
@@ -26,13 +26,13 @@ bounds-v-base g c =
     let h = laid_place f (length c.args.v.runs.now) (c.loop-past.past - 1) c.args.j _ _ _ c.requires.laid c.requires.inside (omega (arith, c.loop-past.invariant.1, c.loop-past-test.true)) (c.loop-past.invariant.2 c.loop-past-test.true) in
     omega (arith, h.1, c.requires.limits.0.few_orders, c.requires.limits.1)
 
-pub overflow-add-sum : goal.overflow-add-sum
-overflow-add-sum g c =
+pub overflow_add-sum : goal.overflow_add-sum
+overflow_add-sum g c =
     let t = g.K.Kind.time in
     let R = all_of t (seen c.args.v) in
     let small = penalty_small t R c.requires.limits.0 c.args.j c.requires.inside in
-    let penalty = penalty_is t R c.args.j c.run-of.result c.track-of-penalty.result c.run-of.ensures c.track-of-penalty.ensures in
-    omega (arith, c.loop-past.invariant.3, c.penalty-if-sum.ensures.few, c.requires.inside, c.requires.limits.0.few_runs)
+    let penalty = penalty_is t R c.args.j c.run_of.result c.track_of-penalty.result c.run_of.ensures c.track_of-penalty.ensures in
+    omega (arith, c.loop-past.invariant.3, c.penalty_if-sum.ensures.few, c.requires.inside, c.requires.limits.0.few_runs)
 
 pub loop-past-preserved : goal.loop-past-preserved
 loop-past-preserved g c =
@@ -50,13 +50,13 @@ loop-past-preserved g c =
     let at : get_or c.args.sums.now j 0 + get_or c.args.counts.now i 0 ≡ place f i j = omega arith in
     let byte = ap (λ (k : ℕ). get_or c.args.v.settings.now k 0) at in
     let small = penalty_small t R c.requires.limits.0 j c.requires.inside in
-    let penalty = penalty_is t R j c.run-of.result c.track-of-penalty.result c.run-of.ensures c.track-of-penalty.ensures in
-    let one = turn_is t R j i _ c.track-of-penalty.result.penalty c.penalty-if-sum.result shared byte penalty c.penalty-if-sum.ensures.cost in
+    let penalty = penalty_is t R j c.run_of.result c.track_of-penalty.result c.run_of.ensures c.track_of-penalty.ensures in
+    let one = turn_is t R j i _ c.track_of-penalty.result.penalty c.penalty_if-sum.result shared byte penalty c.penalty_if-sum.ensures.cost in
     let back = turned_back t R j past (get_or c.args.befores.now i 0) c.loop-past-test.true prev in (
       omega (arith, c.loop-past.invariant.0),
       omega (arith, prev.within, c.loop-past.invariant.1),
       prev.on,
-      omega (arith, prev.within, c.loop-past-test.true, c.loop-past.invariant.3, c.penalty-if-sum.ensures.few),
+      omega (arith, prev.within, c.loop-past-test.true, c.loop-past.invariant.3, c.penalty_if-sum.ensures.few),
     )
 
 pub loop-past-smaller : goal.loop-past-smaller

@@ -5,8 +5,8 @@ use Rattle.network.specs.Reckoning.{arc_at}
 use Rattle.network.proofs.Strays.{some_at, some_none}
 use Rattle.network.proofs.duration_over.Goals as goal
 
-pub returns-then-size-gt-DURATION-SIZE : goal.returns-then-size-gt-DURATION-SIZE
-returns-then-size-gt-DURATION-SIZE g c =
+pub returns-then-size-gt-DURATION_SIZE : goal.returns-then-size-gt-DURATION_SIZE
+returns-then-size-gt-DURATION_SIZE g c =
     let t = g.K.Kind.time in
     let read : c.arc-item.result ≡ arc_at t c.args.arcs.now c.loop-arc.arc-index = get_or_read _ _ _ c.loop-arc-test.true c.arc-item.is _ in
     let same = ap (λ a. t.size a.duration) read in

@@ -4,8 +4,8 @@ use Rattle.std.proofs.lemmas.Bool.{false≢true}
 use Rattle.network.proofs.Strays.{some_at, some_none}
 use Rattle.network.proofs.floor_over.Goals as goal
 
-pub returns-then-size-gt-FLOOR-SIZE : goal.returns-then-size-gt-FLOOR-SIZE
-returns-then-size-gt-FLOOR-SIZE g c =
+pub returns-then-size-gt-FLOOR_SIZE : goal.returns-then-size-gt-FLOOR_SIZE
+returns-then-size-gt-FLOOR_SIZE g c =
     let t = g.K.Kind.time in
     let same = ap t.size (get_or_read _ _ _ c.loop-floor-test.true c.floor-item.is t.none) in
     ((λ _. some_at (λ x. 110000000 < t.size x) t.none c.args.floors.now c.loop-floor.floor-index c.loop-floor-test.true (omega (arith, c.size.ensures))), (λ _. refl))

@@ -6,20 +6,20 @@ use Rattle.network.proofs.Rounds.{arc_is, arc_starts, arc_ends, arc_fits, brings
 use Rattle.network.proofs.round.Goals as goal
 use Rattle.network.proofs.round.Goals.{then-not-compare, else-not-compare, In-Some}
 
-pub offset-bounds-old-arc : goal.offset-bounds-old-arc
-offset-bounds-old-arc g c = let h = arc_starts c.args.old.now c.requires.sound c.loop-i-test.true c.index-arcs-i.is in omega arith
+pub offset_bounds-old-arc : goal.offset_bounds-old-arc
+offset_bounds-old-arc g c = let h = arc_starts c.args.old.now c.requires.sound c.loop-i-test.true c.index-arcs-i.is in omega arith
 
 pub bounds-old-arc : goal.bounds-old-arc
 bounds-old-arc g c = arc_starts c.args.old.now c.requires.sound c.loop-i-test.true c.index-arcs-i.is
 
-pub offset-bounds-new-end : goal.offset-bounds-new-end
-offset-bounds-new-end g c = let h = arc_ends c.args.old.now c.requires.sound c.loop-i-test.true c.index-arcs-i.is in search rules
+pub offset_bounds-new-end : goal.offset_bounds-new-end
+offset_bounds-new-end g c = let h = arc_ends c.args.old.now c.requires.sound c.loop-i-test.true c.index-arcs-i.is in search rules
 
 pub bounds-new-end : goal.bounds-new-end
 bounds-new-end g c = let h = arc_ends c.args.old.now c.requires.sound c.loop-i-test.true c.index-arcs-i.is in search rules
 
-pub offset-bounds-new-end-then-not-compare : goal.offset-bounds-new-end-then-not-compare
-offset-bounds-new-end-then-not-compare g c = offset-bounds-new-end g (goal.at.offset-bounds-new-end-then-not-compare g c).In-Some
+pub offset_bounds-new-end-then-not-compare : goal.offset_bounds-new-end-then-not-compare
+offset_bounds-new-end-then-not-compare g c = offset_bounds-new-end g (goal.at.offset_bounds-new-end-then-not-compare g c).In-Some
 
 pub bounds-new-end-then-not-compare : goal.bounds-new-end-then-not-compare
 bounds-new-end-then-not-compare g c = let h = arc_ends c.args.old.now c.requires.sound c.loop-i-test.true c.index-arcs-i.is in search rules

@@ -9,10 +9,10 @@ use Rattle.network.proofs.settle.Goals as goal
 pub loop-k-init : goal.loop-k-init
 loop-k-init g c =
     let laws = g.met.K.Kind.laws in
-    (rw c.copy-from-slice.ensures.after (latest_none laws _ _ c.requires.sound c.requires.sized), λ j h. absurd (omega arith), λ h. absurd (omega arith))
+    (rw c.copy_from_slice.ensures.after (latest_none laws _ _ c.requires.sound c.requires.sized), λ j h. absurd (omega arith), λ h. absurd (omega arith))
 
-pub slice-bounds-row-end : goal.slice-bounds-row-end
-slice-bounds-row-end g c = let h = row_ends c.loop-k.k (length c.args.floors.now) (length c.args.floors.now) c.loop-k-test.true in omega arith
+pub slice_bounds-row-end : goal.slice_bounds-row-end
+slice_bounds-row-end g c = let h = row_ends c.loop-k.k (length c.args.floors.now) (length c.args.floors.now) c.loop-k-test.true in omega arith
 
 pub round-requires : goal.round-requires
 round-requires g c =
@@ -60,4 +60,4 @@ loop-k-preserved g c =
     let next = latest_more laws _ _ c.requires.sound c.requires.sized k _ c.round.new.new c.round.new.from (omega arith) c.loop-k.invariant.0 c.round.ensures long-new in
     let level : Level g.K.Kind.time c.args.floors.now c.args.arcs.now k c.round.new.from = record { old = c.loop-k.times; new = c.round.new.new; is_old = c.loop-k.invariant.0; is_new = next; round = c.round.ensures } in
     let levels = levels_more c.args.floors.now k (k * n + n - k * n) c.loop-k.rows c.round.new.from long (omega arith) c.loop-k.invariant.1 level in
-    (rw c.copy-from-slice-in-loop-k.ensures.after next, levels, λ _. omega arith)
+    (rw c.copy_from_slice-in-loop-k.ensures.after next, levels, λ _. omega arith)

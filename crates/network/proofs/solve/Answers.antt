@@ -13,8 +13,8 @@ returns-in-None g c =
     let s = c.in-None.ensures in
     (settled_least laws _ _ c.requires.sound c.requires.sized c.requires.few _ s, settled_no_ring laws _ _ c.requires.sound c.requires.sized c.requires.few _ s, refl)
 
-pub name-ring-requires : goal.name-ring-requires
-name-ring-requires g c =
+pub name_ring-requires : goal.name_ring-requires
+name_ring-requires g c =
     let t = g.K.Kind.time in
     let arcs = c.args.arcs.now in
     let path = c.trace-start.new.path in
@@ -45,6 +45,6 @@ returns-in-Some g c =
     let long : length (take (e - s) (drop s path)) ≡ e - s = part_long path s e (omega arith) in
     let P : List ℕ → Type 0 = Ring t (placed t arcs) in
     let ring : Ring t (placed t arcs) (take (e - s) (drop s path)) = subst P (part_is path s e low) r.2 in
-    let Q : ℕ → Type 0 = λ m. Names t (placed t arcs) (take m c.name-ring.new.ring) in
-    let R : ℕ → Type 0 = λ m. drop m c.name-ring.new.ring ≡ drop m c.args.ring.now in
-    (subst Q long (named laws (length c.args.floors.now) arcs c.requires.sound _ _ c.requires.few ring c.name-ring.ensures.turned), ring_no_table laws _ _ c.requires.sound c.requires.sized c.requires.few _ ring, subst R long c.name-ring.ensures.rest, omega arith)
+    let Q : ℕ → Type 0 = λ m. Names t (placed t arcs) (take m c.name_ring.new.ring) in
+    let R : ℕ → Type 0 = λ m. drop m c.name_ring.new.ring ≡ drop m c.args.ring.now in
+    (subst Q long (named laws (length c.args.floors.now) arcs c.requires.sound _ _ c.requires.few ring c.name_ring.ensures.turned), ring_no_table laws _ _ c.requires.sound c.requires.sized c.requires.few _ ring, subst R long c.name_ring.ensures.rest, omega arith)

@@ -27,8 +27,8 @@ loop-seen-init g c =
     let same : length c.args.seen.now ≡ length c.args.floors.now = omega arith in
     (traced_none g.met.K.Kind.laws _ _ c.requires.sound c.requires.sized c.requires.few _ _ _ c.requires.rising, marks_none _ _ _ _ (c.fill.ensures.after (search rules) ∙ ap (λ n. replicate n 65535) same), omega arith)
 
-pub overflow-sub-arc-in-loop-seen : goal.overflow-sub-arc-in-loop-seen
-overflow-sub-arc-in-loop-seen g c = let h = turn_room (turn g c) c.loop-seen-test.true in omega arith
+pub overflow_sub-arc-in-loop-seen : goal.overflow_sub-arc-in-loop-seen
+overflow_sub-arc-in-loop-seen g c = let h = turn_room (turn g c) c.loop-seen-test.true in omega arith
 
 pub bounds-rows-n : goal.bounds-rows-n
 bounds-rows-n g c = turn_row (turn g (goal.at.bounds-rows-n g c).In-loop-seen) c.loop-seen-test.true
@@ -36,8 +36,8 @@ bounds-rows-n g c = turn_row (turn g (goal.at.bounds-rows-n g c).In-loop-seen) c
 pub bounds-path-count : goal.bounds-path-count
 bounds-path-count g c = let h = turn_room (turn g (goal.at.bounds-path-count g c).In-loop-seen) c.loop-seen-test.true in omega arith
 
-pub offset-bounds-arcs-arc : goal.offset-bounds-arcs-arc
-offset-bounds-arcs-arc g c = let h = turn_arc (turn g (goal.at.offset-bounds-arcs-arc g c).In-loop-seen) c.loop-seen-test.true in omega arith
+pub offset_bounds-arcs-arc : goal.offset_bounds-arcs-arc
+offset_bounds-arcs-arc g c = let h = turn_arc (turn g (goal.at.offset_bounds-arcs-arc g c).In-loop-seen) c.loop-seen-test.true in omega arith
 
 pub bounds-arcs-arc : goal.bounds-arcs-arc
 bounds-arcs-arc g c = turn_arc (turn g (goal.at.bounds-arcs-arc g c).In-loop-seen) c.loop-seen-test.true

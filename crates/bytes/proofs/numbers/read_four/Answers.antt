@@ -3,4 +3,4 @@ use Rattle.bytes.proofs.Spelt.{four_back}
 use Rattle.bytes.proofs.numbers.read_four.Goals as goal
 
 pub returns : goal.returns
-returns c = (search rules, four_back c.args.bytes.now c.type-inv.bytes (search rules) c.from-be-bytes.result (search rules))
+returns c = (search rules, four_back c.args.bytes.now c.type_inv.bytes (search rules) c.from_be_bytes.result (search rules))

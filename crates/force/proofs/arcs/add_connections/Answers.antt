@@ -5,16 +5,16 @@ use Rattle.force.proofs.Adds.{added_start, added_more}
 use Rattle.force.proofs.Parts.{connection_is}
 use Rattle.force.proofs.arcs.add_connections.Goals as goal
 
-pub run-of-onward-requires : goal.run-of-onward-requires
-run-of-onward-requires g c =
+pub run_of-onward-requires : goal.run_of-onward-requires
+run_of-onward-requires g c =
     let h = c.requires.limits.0.connections.each c.loop-i.i c.loop-i-test.true in
-    let e = ap (λ x. x.onward) c.connection-of-connection.ensures in omega (arith, h.1.0, c.requires.limits.0.few_runs)
+    let e = ap (λ x. x.onward) c.connection_of-connection.ensures in omega (arith, h.1.0, c.requires.limits.0.few_runs)
 
-pub add-connection-m-requires : goal.add-connection-m-requires
-add-connection-m-requires g c =
+pub add_connection-m-requires : goal.add_connection-m-requires
+add_connection-m-requires g c =
     let h = c.requires.limits.0.connections.each c.loop-i.i c.loop-i-test.true in
-    let e = ap (λ x. x.onward) c.connection-of-connection.ensures in
-    let f = ap (λ x. x.feeder) c.connection-of-connection.ensures in
+    let e = ap (λ x. x.onward) c.connection_of-connection.ensures in
+    let f = ap (λ x. x.feeder) c.connection_of-connection.ensures in
     record { few = (omega (arith, h.0, c.requires.limits.0.few_runs), (omega (arith, h.1.0, c.requires.limits.0.few_runs), omega (arith, c.loop-i.invariant.1, c.requires.limits.0.few_connections, c.requires.long.1, c.requires.long.0))) }
 
 pub loop-i-init : goal.loop-i-init
@@ -26,8 +26,8 @@ pub loop-i-preserved : goal.loop-i-preserved
 loop-i-preserved g c =
     let t = g.K.Kind.time in (
       added_more t (ConnectionOf t (all_of t (seen c.args.v))) _ _ _ 0 c.loop-i.i _ _ _ (omega arith) c.loop-i.invariant.0
-          (connection_is t (all_of t (seen c.args.v)) c.loop-i.i c.connection-of-connection.result c.run-of-onward.result _ _ _ _ c.connection-of-connection.ensures c.run-of-onward.ensures c.add-connection-m.ensures.added),
-      omega (arith, c.add-connection-m.ensures.room, c.loop-i.invariant.1),
+          (connection_is t (all_of t (seen c.args.v)) c.loop-i.i c.connection_of-connection.result c.run_of-onward.result _ _ _ _ c.connection_of-connection.ensures c.run_of-onward.ensures c.add_connection-m.ensures.added),
+      omega (arith, c.add_connection-m.ensures.room, c.loop-i.invariant.1),
     )
 
 pub returns : goal.returns

@@ -12,8 +12,8 @@ loop-j-init g c =
     let t = g.K.Kind.time in
     (added_start t (λ j. Among (OrderOf t (all_of t (seen c.args.v)) j) 0 j) _ 0 0 _ (omega arith), omega arith)
 
-pub add-orders-of-m-requires : goal.add-orders-of-m-requires
-add-orders-of-m-requires g c =
+pub add_orders_of-m-requires : goal.add_orders_of-m-requires
+add_orders_of-m-requires g c =
     let f = track_in g.K.Kind.time (all_of g.K.Kind.time (seen c.args.v)) in
     let more = total_more f c.loop-j.j in
     let mono = total_mono f (c.loop-j.j + 1) (length c.args.v.runs.now) (omega arith) in
@@ -23,8 +23,8 @@ pub loop-j-preserved : goal.loop-j-preserved
 loop-j-preserved g c =
     let t = g.K.Kind.time in
     let more = total_more (track_in t (all_of t (seen c.args.v))) c.loop-j.j in (
-      added_more t (λ j. Among (OrderOf t (all_of t (seen c.args.v)) j) 0 j) _ _ _ 0 c.loop-j.j _ _ _ (omega arith) c.loop-j.invariant.0 c.add-orders-of-m.ensures.added,
-      omega (arith, c.add-orders-of-m.ensures.room, c.loop-j.invariant.1),
+      added_more t (λ j. Among (OrderOf t (all_of t (seen c.args.v)) j) 0 j) _ _ _ 0 c.loop-j.j _ _ _ (omega arith) c.loop-j.invariant.0 c.add_orders_of-m.ensures.added,
+      omega (arith, c.add_orders_of-m.ensures.room, c.loop-j.invariant.1),
     )
 
 pub returns : goal.returns

@@ -8,9 +8,9 @@ use Rattle.force.proofs.Adds.{added_none, added_back}
 use Rattle.force.proofs.Parts.{order_is}
 use Rattle.force.proofs.arcs.add_orders_of.Goals as goal
 
-pub track-of-track-requires : goal.track-of-track-requires
-track-of-track-requires g c =
-    let e = ap (λ r. r.track) c.run-of-y.ensures in
+pub track_of-track-requires : goal.track_of-track-requires
+track_of-track-requires g c =
+    let e = ap (λ r. r.track) c.run_of-y.ensures in
     let h = (c.requires.limits.0.runs.each c.args.j c.requires.inside).0.1.0 in omega arith
 
 pub loop-past-init : goal.loop-past-init
@@ -29,8 +29,8 @@ bounds-v-base g c =
     let h = laid_place f (length c.args.v.runs.now) (c.loop-past.past - 1) c.args.j _ _ _ c.requires.laid c.requires.inside (omega (arith, c.loop-past.invariant.1, c.loop-past-test.true)) (c.loop-past.invariant.2 c.loop-past-test.true) in
     omega (arith, h.1, c.requires.limits.0.few_orders, c.requires.limits.1)
 
-pub add-order-m-requires : goal.add-order-m-requires
-add-order-m-requires g c =
+pub add_order-m-requires : goal.add_order-m-requires
+add_order-m-requires g c =
     let f = track_in g.K.Kind.time (all_of g.K.Kind.time (seen c.args.v)) in
     let past = c.loop-past.past in
     let j = c.args.j in
@@ -61,11 +61,11 @@ loop-past-preserved g c =
     let summed = c.requires.laid.summed j c.requires.inside in
     let at : get_or c.args.sums.now j 0 + get_or c.args.counts.now i 0 ≡ place f i j = omega arith in
     let byte = ap (λ (k : ℕ). get_or c.args.v.settings.now k 0) at in
-    let one = order_is t p c.track-of-track.result _ i j c.run-of.result c.run-of-y.result _ _ _ _ c.track-of-track.ensures byte c.run-of.ensures c.run-of-y.ensures shared c.add-order-m.ensures.added in (
+    let one = order_is t p c.track_of-track.result _ i j c.run_of.result c.run_of-y.result _ _ _ _ c.track_of-track.ensures byte c.run_of.ensures c.run_of-y.ensures shared c.add_order-m.ensures.added in (
       added_back t (OrderOf t p j) _ _ _ q i past j _ _ _ prev.within (omega (arith, c.loop-past-test.true)) c.loop-past.invariant.1 (λ r a l h x. prev.none r l h x.0) c.loop-past.invariant.0 one,
       omega (arith, prev.within, c.loop-past.invariant.1),
       prev.on,
-      omega (arith, passed, c.add-order-m.ensures.room, c.loop-past.invariant.3),
+      omega (arith, passed, c.add_order-m.ensures.room, c.loop-past.invariant.3),
     )
 
 pub loop-past-smaller : goal.loop-past-smaller

@@ -12,19 +12,19 @@ loop-r-init g c =
     let t = g.K.Kind.time in
     (added_start t (λ r. OfRun r (run_in t (all_of t (seen c.args.v)) r)) _ 0 0 0 (omega arith), omega arith)
 
-pub run-of-requires : goal.run-of-requires
-run-of-requires g c = omega arith
+pub run_of-requires : goal.run_of-requires
+run_of-requires g c = omega arith
 
-pub add-run-m-requires : goal.add-run-m-requires
-add-run-m-requires g c =
+pub add_run-m-requires : goal.add_run-m-requires
+add_run-m-requires g c =
     let P : Run g.row.K.Denot → Type 0 = λ x. IfSome x.predecessor (λ q. q < c.loop-r.r) in
-    record { few = (omega arith, (subst P (sym c.run-of.ensures) (c.requires.limits.0.runs.each c.loop-r.r c.loop-r-test.true).0.0, omega arith)) }
+    record { few = (omega arith, (subst P (sym c.run_of.ensures) (c.requires.limits.0.runs.each c.loop-r.r c.loop-r-test.true).0.0, omega arith)) }
 
 pub loop-r-preserved : goal.loop-r-preserved
 loop-r-preserved g c =
     let t = g.K.Kind.time in (
       added_more t (λ r. OfRun r (run_in t (all_of t (seen c.args.v)) r)) _ _ _ 0 c.loop-r.r _ _ _ (omega arith) c.loop-r.invariant.0
-          (run_is t c.loop-r.r c.run-of.result (run_in t (all_of t (seen c.args.v)) c.loop-r.r) _ _ _ _ c.run-of.ensures c.add-run-m.ensures.added),
+          (run_is t c.loop-r.r c.run_of.result (run_in t (all_of t (seen c.args.v)) c.loop-r.r) _ _ _ _ c.run_of.ensures c.add_run-m.ensures.added),
       omega arith,
     )
 

@@ -5,8 +5,8 @@ use Rattle.force.specs.Force.{InForce}
 use Rattle.force.specs.Added.{Listed}
 use Rattle.force.proofs.arcs.fill_arcs.Goals as goal
 
-pub list-arcs-requires : goal.list-arcs-requires
-list-arcs-requires g c =
+pub list_arcs-requires : goal.list_arcs-requires
+list_arcs-requires g c =
     let t = g.K.Kind.time in
     let P : Memory g.row.K.Denot → Type 0 = λ m. Limits t (all_of t m) in
     let e = ap (λ (m : Memory g.row.K.Denot). length m.settings) c.entered.ensures in
@@ -15,5 +15,5 @@ list-arcs-requires g c =
 pub returns : goal.returns
 returns g c =
     let t = g.K.Kind.time in
-    let P : Memory g.row.K.Denot → Type 0 = λ m. Listed t (InForce t (all_of t m)) c.list-arcs.new.arcs c.list-arcs.result in
-    record { listed = subst P c.entered.ensures c.list-arcs.ensures.listed; few = c.list-arcs.ensures.few }
+    let P : Memory g.row.K.Denot → Type 0 = λ m. Listed t (InForce t (all_of t m)) c.list_arcs.new.arcs c.list_arcs.result in
+    record { listed = subst P c.entered.ensures c.list_arcs.ensures.listed; few = c.list_arcs.ensures.few }

@@ -5,8 +5,8 @@ use Rattle.force.specs.Added.{Filled}
 use Rattle.force.proofs.Fills.{filled}
 use Rattle.force.proofs.floors.fill_floors.Goals as goal
 
-pub put-floors-requires : goal.put-floors-requires
-put-floors-requires g c =
+pub put_floors-requires : goal.put_floors-requires
+put_floors-requires g c =
     let v = c.args.v in
     let e = ap (λ (m : Memory g.row.K.Denot). length m.runs) c.entered.ensures ∙ length-take-le v.run_count v.runs.now (omega arith) in
     record { room = (omega arith, omega arith) }
@@ -14,5 +14,5 @@ put-floors-requires g c =
 pub returns : goal.returns
 returns g c =
     let t = g.K.Kind.time in
-    let P : Memory g.row.K.Denot → Type 0 = λ m. Filled t (all_of t m) c.put-floors.new.floors in
-    subst P c.entered.ensures (filled t (all_of t (seen c.entered.result)) c.put-floors.new.floors c.put-floors.ensures)
+    let P : Memory g.row.K.Denot → Type 0 = λ m. Filled t (all_of t m) c.put_floors.new.floors in
+    subst P c.entered.ensures (filled t (all_of t (seen c.entered.result)) c.put_floors.new.floors c.put_floors.ensures)

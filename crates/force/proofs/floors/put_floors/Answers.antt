@@ -11,9 +11,9 @@ loop-r-init g c = record { departures = λ r h. absurd (omega arith); arrivals =
 pub loop-r-preserved : goal.loop-r-preserved
 loop-r-preserved g c =
     let t = g.K.Kind.time in
-    rw (c.put-in-loop-r.ensures, c.put.ensures) (floors_more t (all_of t (seen c.args.v)) c.loop-r.r c.loop-r.floors c.departure-floor.result c.arrival-floor.result (omega arith)
-    (c.departure-floor.ensures ∙ ap (departure_floor_lem t) c.run-of-run.ensures)
-    (c.arrival-floor.ensures ∙ ap (arrival_floor_lem t) c.run-of-run.ensures)
+    rw (c.put-in-loop-r.ensures, c.put.ensures) (floors_more t (all_of t (seen c.args.v)) c.loop-r.r c.loop-r.floors c.departure_floor.result c.arrival_floor.result (omega arith)
+    (c.departure_floor.ensures ∙ ap (departure_floor_lem t) c.run_of-run.ensures)
+    (c.arrival_floor.ensures ∙ ap (arrival_floor_lem t) c.run_of-run.ensures)
     c.loop-r.invariant)
 
 pub returns : goal.returns

@@ -17,22 +17,22 @@ use Rattle.journal.specs.Promise.{state, Stands}
 use Rattle.journal.proofs.Holds.{some_of, none_of, kept_inside, hold_step, hold_refused, hold_again, release_step, release_refused, release_misused}
 use Rattle.journal.proofs.control.open_hold.Goals as goal
 
-pub returns-then-size-gt-TIME-SIZE : goal.returns-then-size-gt-TIME-SIZE
-returns-then-size-gt-TIME-SIZE g c =
+pub returns-then-size-gt-TIME_SIZE : goal.returns-then-size-gt-TIME_SIZE
+returns-then-size-gt-TIME_SIZE g c =
     let t = g.K.Kind.time in
     let a = c.args in
-    let s = some_of (get_or a.slips.now a.run None) (sym c.kept-slip.ensures ∙ c.if-kept-slip.true) in
-    λ l trial listed B st. (hold_again t g.met.K.Kind.laws a.plan.now a.tracks.now a.runs.now a.connections.now a.settings.now a.times.now a.slips.now B st c.requires.records c.requires.listed.times c.requires.slots l listed a.ring.now a.ring.now trial _ c.requires.listed (limits_kept_lem t) a.run a.until s.0 s.1 _ (inl (omega (arith, c.size.ensures, c.if-size-gt-TIME-SIZE.true), refl)), st)
+    let s = some_of (get_or a.slips.now a.run None) (sym c.kept_slip.ensures ∙ c.if-kept_slip.true) in
+    λ l trial listed B st. (hold_again t g.met.K.Kind.laws a.plan.now a.tracks.now a.runs.now a.connections.now a.settings.now a.times.now a.slips.now B st c.requires.records c.requires.listed.times c.requires.slots l listed a.ring.now a.ring.now trial _ c.requires.listed (limits_kept_lem t) a.run a.until s.0 s.1 _ (inl (omega (arith, c.size.ensures, c.if-size-gt-TIME_SIZE.true), refl)), st)
 
-pub returns-then-kept-slip : goal.returns-then-kept-slip
-returns-then-kept-slip g c =
+pub returns-then-kept_slip : goal.returns-then-kept_slip
+returns-then-kept_slip g c =
     let t = g.K.Kind.time in
     let a = c.args in
-    let s = some_of (get_or a.slips.now a.run None) (sym c.kept-slip.ensures ∙ c.if-kept-slip.true) in
-    λ l trial listed B st. (hold_again t g.met.K.Kind.laws a.plan.now a.tracks.now a.runs.now a.connections.now a.settings.now a.times.now a.slips.now B st c.requires.records c.requires.listed.times c.requires.slots l listed a.ring.now a.ring.now trial _ c.requires.listed (limits_kept_lem t) a.run a.until s.0 s.1 _ (inr ((λ over. omega (arith, c.size.ensures, c.if-size-gt-TIME-SIZE.false)), refl)), st)
+    let s = some_of (get_or a.slips.now a.run None) (sym c.kept_slip.ensures ∙ c.if-kept_slip.true) in
+    λ l trial listed B st. (hold_again t g.met.K.Kind.laws a.plan.now a.tracks.now a.runs.now a.connections.now a.settings.now a.times.now a.slips.now B st c.requires.records c.requires.listed.times c.requires.slots l listed a.ring.now a.ring.now trial _ c.requires.listed (limits_kept_lem t) a.run a.until s.0 s.1 _ (inr ((λ over. omega (arith, c.size.ensures, c.if-size-gt-TIME_SIZE.false)), refl)), st)
 
-pub put-slip-requires : goal.put-slip-requires
-put-slip-requires g c =
+pub put_slip-requires : goal.put_slip-requires
+put_slip-requires g c =
     let t = g.K.Kind.time in
     let a = c.args in
     let m = open_memory a.plan.now a.tracks.now a.runs.now a.connections.now a.settings.now in
@@ -42,7 +42,7 @@ put-slip-requires g c =
     let known = (hold_passed t (register_of t m) a.run a.until fine).known in
     record {
       inside = kept_inside a.plan.now.runs a.runs.now a.run (length a.slips.now) known c.requires.records.runs c.requires.slots;
-      free = none_of (get_or a.slips.now a.run None) (sym c.kept-slip.ensures ∙ c.if-kept-slip.false);
+      free = none_of (get_or a.slips.now a.run None) (sym c.kept_slip.ensures ∙ c.if-kept_slip.false);
     }
 
 pub returns-in-Ok : goal.returns-in-Ok
@@ -52,7 +52,7 @@ returns-in-Ok g c =
     λ l trial listed B st. (
     let r = hold_step t g.met.K.Kind.laws a.plan.now a.tracks.now a.runs.now a.connections.now a.settings.now a.times.now a.slips.now B st c.requires.records c.requires.listed.times c.requires.slots l listed a.ring.now c.hold.new.ring trial _ c.requires.listed (limits_kept_lem t) a.run a.until c.hold.new.times c.hold.new.runs c.in-Ok.slip c.in-Ok.ensures.reckons c.in-Ok.ensures.runs c.in-Ok.ensures.slip in
     let P : List (Option Slip) → Type 0 = λ ss. Stands t (taken t B (call.Hold a.run a.until)) (state (stage.Open a.plan.now) a.tracks.now c.hold.new.runs a.connections.now a.settings.now c.hold.new.times ss) in
-    (r.0, subst P (sym c.put-slip.ensures) r.1))
+    (r.0, subst P (sym c.put_slip.ensures) r.1))
 
 pub returns-in-Err : goal.returns-in-Err
 returns-in-Err g c =

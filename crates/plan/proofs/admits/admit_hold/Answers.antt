@@ -10,14 +10,14 @@ use Rattle.plan.specs.Calls.{lengths, open_call_rows}
 use Rattle.plan.proofs.Ready.{hold_ready}
 use Rattle.plan.proofs.admits.admit_hold.Goals as goal
 
-pub returns-in-err-admit : goal.returns-in-err-admit
-returns-in-err-admit g c =
+pub returns-in_err-admit : goal.returns-in_err-admit
+returns-in_err-admit g c =
     let t = g.K.Kind.time in
     let a = c.args in
     let l = lengths (length a.times.now) a.ring a.counts a.sums a.befores a.floors a.arcs a.tables a.marks in
     let m = open_memory a.plan.now a.tracks.now a.runs.now a.connections.now a.settings.now in
-    let p = err_from_is_err_and c.from-residual.result c.from-residual.ensures.1 in
-    rw (p.1, p.2) (record { rows = first_front (open_call_rows t l m a.times.now) (hold_rows t (register_of t m) a.run a.until) _ _ c.in-err-admit.ensures.rows; ready = tt })
+    let p = err_from_is_err_and c.from_residual.result c.from_residual.ensures.1 in
+    rw (p.1, p.2) (record { rows = first_front (open_call_rows t l m a.times.now) (hold_rows t (register_of t m) a.run a.until) _ _ c.in_err-admit.ensures.rows; ready = tt })
 
 pub returns : goal.returns
 returns g c =
@@ -25,11 +25,11 @@ returns g c =
     let a = c.args in
     let l = lengths (length a.times.now) a.ring a.counts a.sums a.befores a.floors a.arcs a.tables a.marks in
     let m = open_memory a.plan.now a.tracks.now a.runs.now a.connections.now a.settings.now in
-    let is : seen c.entered.result ≡ front m = c.entered.ensures ∙ ap front c.open-view-v.ensures in
-    let P : Memory g.row.K.Denot → Type 0 = λ x. Answers plan_number plan_place (hold_rows t (all_of t x) a.run a.until) c.check-hold.result in
-    let own : Answers plan_number plan_place (hold_rows t (register_of t m) a.run a.until) c.check-hold.result = subst P is c.check-hold.ensures in
-    let sound = c.in-ok-admit.ensures.sound in
+    let is : seen c.entered.result ≡ front m = c.entered.ensures ∙ ap front c.open_view-v.ensures in
+    let P : Memory g.row.K.Denot → Type 0 = λ x. Answers plan_number plan_place (hold_rows t (all_of t x) a.run a.until) c.check_hold.result in
+    let own : Answers plan_number plan_place (hold_rows t (register_of t m) a.run a.until) c.check_hold.result = subst P is c.check_hold.ensures in
+    let sound = c.in_ok-admit.ensures.sound in
     record {
-      rows = answers_more plan_number plan_place (open_call_rows t l m a.times.now) (hold_rows t (register_of t m) a.run a.until) c.check-hold.result c.in-ok-admit.ensures.rows own;
-      ready = hold_ready t l m a.times.now sound.0 sound.1 a.run a.until c.check-hold.result own;
+      rows = answers_more plan_number plan_place (open_call_rows t l m a.times.now) (hold_rows t (register_of t m) a.run a.until) c.check_hold.result c.in_ok-admit.ensures.rows own;
+      ready = hold_ready t l m a.times.now sound.0 sound.1 a.run a.until c.check_hold.result own;
     }

@@ -13,38 +13,38 @@ use Rattle.plan.proofs.Ready.{turning_ready}
 use Rattle.plan.proofs.admits.admit_turning.Given as given
 use Rattle.plan.proofs.admits.admit_turning.Goals as goal
 
-pub returns-in-err-admit : goal.returns-in-err-admit
-returns-in-err-admit g c =
+pub returns-in_err-admit : goal.returns-in_err-admit
+returns-in_err-admit g c =
     let t = g.K.Kind.time in
     let a = c.args in
     let l = lengths a.written a.ring a.counts a.sums a.befores a.floors a.arcs a.tables a.marks in
     let m = open_memory a.plan.now a.tracks.now a.runs.now a.connections.now a.settings.now in
-    let p = err_from_is_err_and c.from-residual.result c.from-residual.ensures.1 in
-    rw (p.1, p.2) (record { rows = first_front (open_call_rows t l m a.times.now) (turning_rows t (register_of t m) a.switch a.setting) _ _ c.in-err-admit.ensures.rows; ready = tt })
+    let p = err_from_is_err_and c.from_residual.result c.from_residual.ensures.1 in
+    rw (p.1, p.2) (record { rows = first_front (open_call_rows t l m a.times.now) (turning_rows t (register_of t m) a.switch a.setting) _ _ c.in_err-admit.ensures.rows; ready = tt })
 
-pub returns-in-err-check-turning : goal.returns-in-err-check-turning
-returns-in-err-check-turning g c =
+pub returns-in_err-check_turning : goal.returns-in_err-check_turning
+returns-in_err-check_turning g c =
     let t = g.K.Kind.time in
     let a = c.args in
     let l = lengths a.written a.ring a.counts a.sums a.befores a.floors a.arcs a.tables a.marks in
     let m = open_memory a.plan.now a.tracks.now a.runs.now a.connections.now a.settings.now in
-    let is : seen c.entered-v.result ≡ front m = c.entered-v.ensures ∙ ap front c.open-view.ensures in
-    let p = err_from_is_err_and c.from-residual-in-err-check-turning.result c.from-residual-in-err-check-turning.ensures.1 in
-    let f = c.in-err-check-turning.field-0.0 in
+    let is : seen c.entered-v.result ≡ front m = c.entered-v.ensures ∙ ap front c.open_view.ensures in
+    let p = err_from_is_err_and c.from_residual-in_err-check_turning.result c.from_residual-in_err-check_turning.ensures.1 in
+    let f = c.in_err-check_turning.field-0.0 in
     let P : Memory g.row.K.Denot → Type 0 = λ x. First (turning_rows t (all_of t x) a.switch a.setting) (plan_number f) (plan_place f) in
-    rw (p.1, p.2) (record { rows = first_more (open_call_rows t l m a.times.now) (turning_rows t (register_of t m) a.switch a.setting) _ _ c.in-ok-admit.ensures.rows (subst P is c.in-err-check-turning.ensures); ready = tt })
+    rw (p.1, p.2) (record { rows = first_more (open_call_rows t l m a.times.now) (turning_rows t (register_of t m) a.switch a.setting) _ _ c.in_ok-admit.ensures.rows (subst P is c.in_err-check_turning.ensures); ready = tt })
 
-pub place-of-requires : goal.place-of-requires
-place-of-requires g c =
+pub place_of-requires : goal.place_of-requires
+place_of-requires g c =
     let t = g.K.Kind.time in
     let a = c.args in
     let m = open_memory a.plan.now a.tracks.now a.runs.now a.connections.now a.settings.now in
-    let is : seen c.entered-v.result ≡ front m = c.entered-v.ensures ∙ ap front c.open-view.ensures in
+    let is : seen c.entered-v.result ≡ front m = c.entered-v.ensures ∙ ap front c.open_view.ensures in
     let P : Memory g.row.K.Denot → Type 0 = λ x. Limits t (all_of t x) in
     let R = all_of t (seen c.entered-v.result) in
     record {
-      limits = subst P (sym is) c.in-ok-admit.ensures.sound.1.stored.limits;
-      passed = setting_named t R a.switch a.setting (turning_set t R a.switch a.setting c.in-ok-check-turning.ensures);
+      limits = subst P (sym is) c.in_ok-admit.ensures.sound.1.stored.limits;
+      passed = setting_named t R a.switch a.setting (turning_set t R a.switch a.setting c.in_ok-check_turning.ensures);
     }
 
 pub returns : goal.returns
@@ -53,11 +53,11 @@ returns g c =
     let a = c.args in
     let l = lengths a.written a.ring a.counts a.sums a.befores a.floors a.arcs a.tables a.marks in
     let m = open_memory a.plan.now a.tracks.now a.runs.now a.connections.now a.settings.now in
-    let is : seen c.entered-v.result ≡ front m = c.entered-v.ensures ∙ ap front c.open-view.ensures in
-    let sound = c.in-ok-admit.ensures.sound in
+    let is : seen c.entered-v.result ≡ front m = c.entered-v.ensures ∙ ap front c.open_view.ensures in
+    let sound = c.in_ok-admit.ensures.sound in
     let P : Memory g.row.K.Denot → Type 0 = λ x. Passed (turning_rows t (all_of t x) a.switch a.setting) in
-    let passed : Passed (turning_rows t (register_of t m) a.switch a.setting) = subst P is c.in-ok-check-turning.ensures in
+    let passed : Passed (turning_rows t (register_of t m) a.switch a.setting) = subst P is c.in_ok-check_turning.ensures in
     record {
-      rows = passed_more (open_call_rows t l m a.times.now) (turning_rows t (register_of t m) a.switch a.setting) c.in-ok-admit.ensures.rows passed;
-      ready = turning_ready t l m a.times.now sound.0 sound.1 a.switch a.setting passed c.place-of.result (c.place-of.ensures.place ∙ ap (λ x. setting_place t (all_of t x) a.switch) is) c.place-of.ensures.inside;
+      rows = passed_more (open_call_rows t l m a.times.now) (turning_rows t (register_of t m) a.switch a.setting) c.in_ok-admit.ensures.rows passed;
+      ready = turning_ready t l m a.times.now sound.0 sound.1 a.switch a.setting passed c.place_of.result (c.place_of.ensures.place ∙ ap (λ x. setting_place t (all_of t x) a.switch) is) c.place_of.ensures.inside;
     }

@@ -5,10 +5,10 @@ use Rattle.records.specs.Stored.{Stored}
 use Rattle.force.specs.Reckoned.{TimesAfter, RingAfter}
 use Rattle.plan.proofs.changes.replace_setting.Goals as goal
 
-pub reckon-plan-requires : goal.reckon-plan-requires
-reckon-plan-requires g c =
+pub reckon_plan-requires : goal.reckon_plan-requires
+reckon_plan-requires g c =
     let P : Memory g.row.K.Denot → Type 0 = Stored g.K.Kind.time in
-    let is = c.open-view.ensures in
+    let is = c.open_view.ensures in
     let r = c.requires.records in
     let l = c.requires.listed in
     record {
@@ -23,11 +23,11 @@ pub returns-in-Ok : goal.returns-in-Ok
 returns-in-Ok g c =
     let t = g.K.Kind.time in
     let a = c.args in
-    let P : Memory g.row.K.Denot → Type 0 = λ m. TimesAfter t (register_of t m) a.times.now c.reckon-plan.new.times (Ok tt) in
-    let Q : Memory g.row.K.Denot → Type 0 = λ m. RingAfter t (register_of t m) a.ring.now c.reckon-plan.new.ring (Ok tt) in
+    let P : Memory g.row.K.Denot → Type 0 = λ m. TimesAfter t (register_of t m) a.times.now c.reckon_plan.new.times (Ok tt) in
+    let Q : Memory g.row.K.Denot → Type 0 = λ m. RingAfter t (register_of t m) a.ring.now c.reckon_plan.new.ring (Ok tt) in
     record {
-      times = subst P c.open-view.ensures c.in-Ok.ensures.times;
-      ring = subst Q c.open-view.ensures c.in-Ok.ensures.ring;
+      times = subst P c.open_view.ensures c.in-Ok.ensures.times;
+      ring = subst Q c.open_view.ensures c.in-Ok.ensures.ring;
       settings = refl;
     }
 
@@ -35,10 +35,10 @@ pub returns-in-Err : goal.returns-in-Err
 returns-in-Err g c =
     let t = g.K.Kind.time in
     let a = c.args in
-    let P : Memory g.row.K.Denot → Type 0 = λ m. TimesAfter t (register_of t m) a.times.now c.reckon-plan.new.times (Err c.in-Err.fault) in
-    let Q : Memory g.row.K.Denot → Type 0 = λ m. RingAfter t (register_of t m) a.ring.now c.reckon-plan.new.ring (Err c.in-Err.fault) in
+    let P : Memory g.row.K.Denot → Type 0 = λ m. TimesAfter t (register_of t m) a.times.now c.reckon_plan.new.times (Err c.in-Err.fault) in
+    let Q : Memory g.row.K.Denot → Type 0 = λ m. RingAfter t (register_of t m) a.ring.now c.reckon_plan.new.ring (Err c.in-Err.fault) in
     record {
-      times = subst P c.open-view.ensures c.in-Err.ensures.times;
-      ring = subst Q c.open-view.ensures c.in-Err.ensures.ring;
+      times = subst P c.open_view.ensures c.in-Err.ensures.times;
+      ring = subst Q c.open_view.ensures c.in-Err.ensures.ring;
       settings = set-set a.settings.now a.place a.setting _ ∙ set-get_or a.settings.now a.place 0;
     }

@@ -4,17 +4,17 @@ use Rattle.records.specs.Places.{total}
 use Rattle.records.proofs.Counts.{total_kept}
 use Rattle.plan.proofs.draft.orders_below.Goals as goal
 
-pub count-orders-requires : goal.count-orders-requires
-count-orders-requires g c =
-    let cut = c.split-at.ensures in
+pub count_orders-requires : goal.count_orders-requires
+count_orders-requires g c =
+    let cut = c.split_at.ensures in
     record {
       few = omega (arith, cut.front-len, c.requires.few);
       tracks = λ k h. (let below : k < c.args.n = omega (arith, cut.front-len) in
-          let same : track_of_lem g.K.Kind.time c.split-at.result.0.now k ≡ track_of_lem g.K.Kind.time c.args.runs.now k = ap (λ r. r.track) (cut.by_index.1 k _ below) in omega (arith, c.requires.tracks k below));
+          let same : track_of_lem g.K.Kind.time c.split_at.result.0.now k ≡ track_of_lem g.K.Kind.time c.args.runs.now k = ap (λ r. r.track) (cut.by_index.1 k _ below) in omega (arith, c.requires.tracks k below));
     }
 
 pub returns : goal.returns
 returns g c =
-    let cut = c.split-at.ensures in
-    let f = track_of_lem g.K.Kind.time c.split-at.result.0.now in
-    c.count-orders.ensures ∙ ap (total f) cut.front-len ∙ total_kept f (track_of_lem g.K.Kind.time c.args.runs.now) c.args.n (λ k h. ap (λ r. r.track) (cut.by_index.1 k _ h))
+    let cut = c.split_at.ensures in
+    let f = track_of_lem g.K.Kind.time c.split_at.result.0.now in
+    c.count_orders.ensures ∙ ap (total f) cut.front-len ∙ total_kept f (track_of_lem g.K.Kind.time c.args.runs.now) c.args.n (λ k h. ap (λ r. r.track) (cut.by_index.1 k _ h))

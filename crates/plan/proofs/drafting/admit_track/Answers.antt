@@ -9,31 +9,31 @@ use Rattle.plan.specs.States.{draft_memory}
 use Rattle.plan.proofs.Entering.{fits, track_room}
 use Rattle.plan.proofs.drafting.admit_track.Goals as goal
 
-pub returns-in-err-check-draft : goal.returns-in-err-check-draft
-returns-in-err-check-draft g c =
+pub returns-in_err-check_draft : goal.returns-in_err-check_draft
+returns-in_err-check_draft g c =
     let t = g.K.Kind.time in
     let a = c.args in
     let m = draft_memory a.draft.now a.tracks.now a.runs.now a.connections.now a.settings.now in
-    let p = err_from_is_err_and c.from-residual.result c.from-residual.ensures.1 in
-    let P : Memory g.row.K.Denot → Type 0 = λ x. First (draft_rows t x) (plan_number c.in-err-check-draft.field-0.0) (plan_place c.in-err-check-draft.field-0.0) in
-    rw (p.1, p.2) (record { rows = first_front (draft_rows t m) (track_rows t (register_of t m) a.track) _ _ (subst P c.draft-view-v.ensures c.in-err-check-draft.ensures.rows); room = tt })
+    let p = err_from_is_err_and c.from_residual.result c.from_residual.ensures.1 in
+    let P : Memory g.row.K.Denot → Type 0 = λ x. First (draft_rows t x) (plan_number c.in_err-check_draft.field-0.0) (plan_place c.in_err-check_draft.field-0.0) in
+    rw (p.1, p.2) (record { rows = first_front (draft_rows t m) (track_rows t (register_of t m) a.track) _ _ (subst P c.draft_view-v.ensures c.in_err-check_draft.ensures.rows); room = tt })
 
 pub entered-requires : goal.entered-requires
 entered-requires g c =
-    fits g.K.Kind.time (seen c.draft-view-v.result) c.in-ok-check-draft.ensures.sound
+    fits g.K.Kind.time (seen c.draft_view-v.result) c.in_ok-check_draft.ensures.sound
 
 pub returns : goal.returns
 returns g c =
     let t = g.K.Kind.time in
     let a = c.args in
     let m = draft_memory a.draft.now a.tracks.now a.runs.now a.connections.now a.settings.now in
-    let is : seen c.entered.result ≡ front m = c.entered.ensures ∙ ap front c.draft-view-v.ensures in
-    let P : Memory g.row.K.Denot → Type 0 = λ x. Answers plan_number plan_place (track_rows t (all_of t x) a.track) c.check-track.result in
-    let own : Answers plan_number plan_place (track_rows t (register_of t m) a.track) c.check-track.result = subst P is c.check-track.ensures in
+    let is : seen c.entered.result ≡ front m = c.entered.ensures ∙ ap front c.draft_view-v.ensures in
+    let P : Memory g.row.K.Denot → Type 0 = λ x. Answers plan_number plan_place (track_rows t (all_of t x) a.track) c.check_track.result in
+    let own : Answers plan_number plan_place (track_rows t (register_of t m) a.track) c.check_track.result = subst P is c.check_track.ensures in
     let Q : Memory g.row.K.Denot → Type 0 = λ x. SoundDraft t x in
     let R : Memory g.row.K.Denot → Type 0 = λ x. Passed (draft_rows t x) in
-    let sound = subst Q c.draft-view-v.ensures c.in-ok-check-draft.ensures.sound in
+    let sound = subst Q c.draft_view-v.ensures c.in_ok-check_draft.ensures.sound in
     record {
-      rows = answers_more plan_number plan_place (draft_rows t m) (track_rows t (register_of t m) a.track) c.check-track.result (subst R c.draft-view-v.ensures c.in-ok-check-draft.ensures.rows) own;
-      room = track_room t m sound a.track c.check-track.result own;
+      rows = answers_more plan_number plan_place (draft_rows t m) (track_rows t (register_of t m) a.track) c.check_track.result (subst R c.draft_view-v.ensures c.in_ok-check_draft.ensures.rows) own;
+      room = track_room t m sound a.track c.check_track.result own;
     }

@@ -9,42 +9,42 @@ pub loop-j-init : goal.loop-j-init
 loop-j-init g c = (record { counted = λ k h. absurd (omega arith); summed = λ k h. absurd (omega arith); before = λ k h. absurd (omega arith) }, refl, (λ x h. get_or-replicate {A = ℕ} 64 x 0 0 h), (λ x h. let e = get_or-replicate {A = ℕ} 64 x 0 0 h in rw e (record { within = omega arith; on = λ p. absurd (omega arith); none = λ k a b e. absurd (omega arith) })), refl, refl)
 
 pub bounds-tally-track : goal.bounds-tally-track
-bounds-tally-track g c = let e = ap (λ r. r.track) c.run-of.ensures in let h = c.requires.tracks c.loop-j.j c.loop-j-test.true in omega arith
+bounds-tally-track g c = let e = ap (λ r. r.track) c.run_of.ensures in let h = c.requires.tracks c.loop-j.j c.loop-j-test.true in omega arith
 
 pub bounds-last-track : goal.bounds-last-track
-bounds-last-track g c = let e = ap (λ r. r.track) c.run-of.ensures in let h = c.requires.tracks c.loop-j.j c.loop-j-test.true in omega arith
+bounds-last-track g c = let e = ap (λ r. r.track) c.run_of.ensures in let h = c.requires.tracks c.loop-j.j c.loop-j-test.true in omega arith
 
-pub overflow-add-sum : goal.overflow-add-sum
-overflow-add-sum g c =
+pub overflow_add-sum : goal.overflow_add-sum
+overflow_add-sum g c =
     let f = track_of_lem g.K.Kind.time c.args.runs.now in
     let j = c.loop-j.j in
-    let e : c.run-of.result.track ≡ f j = ap (λ r. r.track) c.run-of.ensures in
-    let h : c.run-of.result.track < 64 = omega (arith, c.requires.tracks j c.loop-j-test.true) in
-    let a = c.loop-j.invariant.2 c.run-of.result.track h in
-    let b = count_small f c.run-of.result.track j in
+    let e : c.run_of.result.track ≡ f j = ap (λ r. r.track) c.run_of.ensures in
+    let h : c.run_of.result.track < 64 = omega (arith, c.requires.tracks j c.loop-j-test.true) in
+    let a = c.loop-j.invariant.2 c.run_of.result.track h in
+    let b = count_small f c.run_of.result.track j in
     let d = total_small f 512 j (omega arith) in omega arith
 
-pub overflow-add-tally : goal.overflow-add-tally
-overflow-add-tally g c =
+pub overflow_add-tally : goal.overflow_add-tally
+overflow_add-tally g c =
     let f = track_of_lem g.K.Kind.time c.args.runs.now in
     let j = c.loop-j.j in
-    let e : c.run-of.result.track ≡ f j = ap (λ r. r.track) c.run-of.ensures in
-    let h : c.run-of.result.track < 64 = omega (arith, c.requires.tracks j c.loop-j-test.true) in
-    let a = c.loop-j.invariant.2 c.run-of.result.track h in
-    let b = count_small f c.run-of.result.track j in omega arith
+    let e : c.run_of.result.track ≡ f j = ap (λ r. r.track) c.run_of.ensures in
+    let h : c.run_of.result.track < 64 = omega (arith, c.requires.tracks j c.loop-j-test.true) in
+    let a = c.loop-j.invariant.2 c.run_of.result.track h in
+    let b = count_small f c.run_of.result.track j in omega arith
 
 pub bounds-tally-track-in-loop-j : goal.bounds-tally-track-in-loop-j
-bounds-tally-track-in-loop-j g c = let e = ap (λ r. r.track) c.run-of.ensures in let h = c.requires.tracks c.loop-j.j c.loop-j-test.true in omega arith
+bounds-tally-track-in-loop-j g c = let e = ap (λ r. r.track) c.run_of.ensures in let h = c.requires.tracks c.loop-j.j c.loop-j-test.true in omega arith
 
 pub bounds-last-track-in-loop-j : goal.bounds-last-track-in-loop-j
-bounds-last-track-in-loop-j g c = let e = ap (λ r. r.track) c.run-of.ensures in let h = c.requires.tracks c.loop-j.j c.loop-j-test.true in omega arith
+bounds-last-track-in-loop-j g c = let e = ap (λ r. r.track) c.run_of.ensures in let h = c.requires.tracks c.loop-j.j c.loop-j-test.true in omega arith
 
 pub loop-j-preserved : goal.loop-j-preserved
 loop-j-preserved g c =
     let f = track_of_lem g.K.Kind.time c.args.runs.now in
     let j = c.loop-j.j in
-    let x = c.run-of.result.track in
-    let e : x ≡ f j = ap (λ r. r.track) c.run-of.ensures in
+    let x = c.run_of.result.track in
+    let e : x ≡ f j = ap (λ r. r.track) c.run_of.ensures in
     let h : x < 64 = omega (arith, c.requires.tracks j c.loop-j-test.true) in
     let here = c.loop-j.invariant.2 x h in
     let counted : get_or c.loop-j.tally x 0 ≡ earlier f j = here ∙ ap (λ (y : ℕ). count f y j) e in
@@ -66,11 +66,11 @@ returns g c =
     let P : ℕ → Type 0 = λ n. Laid f n c.loop-j.counts c.loop-j.sums c.loop-j.befores in
     record { laid = subst P e c.loop-j.invariant.0; orders = c.loop-j.invariant.1 ∙ ap (total f) e }
 
-pub overflow-cast-sum : goal.overflow-cast-sum
-overflow-cast-sum g c =
+pub overflow_cast-sum : goal.overflow_cast-sum
+overflow_cast-sum g c =
     let f = track_of_lem g.K.Kind.time c.args.runs.now in
     let j = c.loop-j.j in
-    let e : c.run-of.result.track ≡ f j = ap (λ r. r.track) c.run-of.ensures in
-    let h : c.run-of.result.track < 64 = omega (arith, c.requires.tracks j c.loop-j-test.true) in
-    let a = c.loop-j.invariant.2 c.run-of.result.track h in
-    let b = count_small f c.run-of.result.track j in omega arith
+    let e : c.run_of.result.track ≡ f j = ap (λ r. r.track) c.run_of.ensures in
+    let h : c.run_of.result.track < 64 = omega (arith, c.requires.tracks j c.loop-j-test.true) in
+    let a = c.loop-j.invariant.2 c.run_of.result.track h in
+    let b = count_small f c.run_of.result.track j in omega arith

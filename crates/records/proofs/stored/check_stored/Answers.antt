@@ -8,8 +8,8 @@ use Rattle.records.proofs.stored.check_stored.Goals as goal
 pub returns-then-v-gt64 : goal.returns-then-v-gt64
 returns-then-v-gt64 g c = ((λ e. absurd (false≢true e)), λ s. absurd (elim c.then-v-gt64.either [ inl h ↦ omega (arith, s.few_tracks) | inr (inl h) ↦ omega (arith, h.1, s.few_runs) | inr (inr h) ↦ omega (arith, h.1, s.few_connections) ]))
 
-pub limits-kept-requires : goal.limits-kept-requires
-limits-kept-requires g c =
+pub limits_kept-requires : goal.limits_kept-requires
+limits_kept-requires g c =
     let v = c.args.v in
     let a = ap (λ (m : Memory g.row.K.Denot). length m.tracks) c.entered.ensures ∙ length-take-le v.track_count v.tracks.now (omega arith) in
     let b = ap (λ (m : Memory g.row.K.Denot). length m.runs) c.entered.ensures ∙ length-take-le v.run_count v.runs.now (omega arith) in
@@ -21,6 +21,6 @@ pub returns : goal.returns
 returns g c =
     let t = g.K.Kind.time in
     let P : Memory g.row.K.Denot → Type 0 = λ m. Limits t (all_of t m) in (
-      (λ e. record { few_tracks = omega arith; few_runs = omega arith; few_connections = omega arith; limits = subst P c.entered.ensures (c.limits-kept.ensures.0 e) }),
-      λ s. c.limits-kept.ensures.1 (subst P (sym c.entered.ensures) s.limits),
+      (λ e. record { few_tracks = omega arith; few_runs = omega arith; few_connections = omega arith; limits = subst P c.entered.ensures (c.limits_kept.ensures.0 e) }),
+      λ s. c.limits_kept.ensures.1 (subst P (sym c.entered.ensures) s.limits),
     )

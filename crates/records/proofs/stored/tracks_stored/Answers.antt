@@ -5,16 +5,16 @@ use Rattle.records.specs.Records.{track_at}
 use Rattle.records.specs.Stored.{TrackStored}
 use Rattle.records.proofs.stored.tracks_stored.Goals as goal
 
-pub returns-then-not-track-stored : goal.returns-then-not-track-stored
-returns-then-not-track-stored g c =
+pub returns-then-not-track_stored : goal.returns-then-not-track_stored
+returns-then-not-track_stored g c =
     let P : Track g.row.K.Denot → Type 0 = TrackStored g.K.Kind.time in
-    ((λ e. absurd (false≢true e)), λ all. absurd (both_ways _ c.if-not-track-stored.true (c.track-stored.ensures.1 (subst P (sym c.track-of.ensures) (all.each c.loop-i.i c.loop-i-test.true)))))
+    ((λ e. absurd (false≢true e)), λ all. absurd (both_ways _ c.if-not-track_stored.true (c.track_stored.ensures.1 (subst P (sym c.track_of.ensures) (all.each c.loop-i.i c.loop-i-test.true)))))
 
 pub loop-i-preserved : goal.loop-i-preserved
 loop-i-preserved g c =
     let t = g.K.Kind.time in
     let P : Track g.row.K.Denot → Type 0 = TrackStored t in
-    below_more (λ k. TrackStored t (track_at t c.args.tracks.now k)) c.loop-i.i c.loop-i.invariant (subst P c.track-of.ensures (c.track-stored.ensures.0 c.if-not-track-stored.false))
+    below_more (λ k. TrackStored t (track_at t c.args.tracks.now k)) c.loop-i.i c.loop-i.invariant (subst P c.track_of.ensures (c.track_stored.ensures.0 c.if-not-track_stored.false))
 
 pub returns : goal.returns
 returns g c = ((λ _. record { each = λ k h. c.loop-i.invariant k (omega arith) }), λ _. refl)

@@ -12,8 +12,8 @@ returns-then-over g c = inr (λ h. omega arith, inl (c.over.ensures.0 c.if-over.
 
 pub returns-then-untimely : goal.returns-then-untimely
 returns-then-untimely g c =
-    let d = decides_at (λ (x : Run g.row.K.Denot). Untimely g.K.Kind.time x (c.args.event % 2) c.args.at) c.run-of.ensures c.untimely.ensures in inr (λ h. omega arith, inr (unless c.over.ensures c.if-over.false, inl (d.0 c.if-untimely.true, refl, refl)))
+    let d = decides_at (λ (x : Run g.row.K.Denot). Untimely g.K.Kind.time x (c.args.event % 2) c.args.at) c.run_of.ensures c.untimely.ensures in inr (λ h. omega arith, inr (unless c.over.ensures c.if-over.false, inl (d.0 c.if-untimely.true, refl, refl)))
 
 pub returns : goal.returns
 returns g c =
-    let d = decides_at (λ (x : Run g.row.K.Denot). Untimely g.K.Kind.time x (c.args.event % 2) c.args.at) c.run-of.ensures c.untimely.ensures in (λ h. omega arith, (unless c.over.ensures c.if-over.false, (unless d c.if-untimely.false, tt)))
+    let d = decides_at (λ (x : Run g.row.K.Denot). Untimely g.K.Kind.time x (c.args.event % 2) c.args.at) c.run_of.ensures c.untimely.ensures in (λ h. omega arith, (unless c.over.ensures c.if-over.false, (unless d c.if-untimely.false, tt)))

@@ -11,8 +11,8 @@ returns-then-j-runs g c = inr (λ h. omega arith, inl (omega arith, refl, refl))
 pub returns-then-j-i : goal.returns-then-j-i
 returns-then-j-i g c = inr (λ h. omega arith, inr (λ h. omega arith, inl (omega arith, refl, refl)))
 
-pub returns-then-not-one-track : goal.returns-then-not-one-track
-returns-then-not-one-track g c = inr (λ h. omega arith, inr (λ h. omega arith, inr (λ h. omega arith, inl (unless c.one-track.ensures c.if-not-one-track.true, refl, refl))))
+pub returns-then-not-one_track : goal.returns-then-not-one_track
+returns-then-not-one_track g c = inr (λ h. omega arith, inr (λ h. omega arith, inr (λ h. omega arith, inl (unless c.one_track.ensures c.if-not-one_track.true, refl, refl))))
 
 pub returns : goal.returns
-returns g c = (λ h. omega arith, (λ h. omega arith, (λ h. omega arith, (holds c.one-track.ensures c.if-not-one-track.false, tt))))
+returns g c = (λ h. omega arith, (λ h. omega arith, (λ h. omega arith, (holds c.one_track.ensures c.if-not-one_track.false, tt))))

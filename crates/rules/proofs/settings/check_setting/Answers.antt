@@ -12,34 +12,34 @@ use Rattle.rules.proofs.settings.check_setting.Goals as goal
 own : {K : Type 0} → Time K → Register K → Switch → ℕ → List Row
 own t R s v = row 7 0 (1 < v) ∷ row 8 0 (setting_of_lem t R s ≡ v) ∷ []
 
-pub returns-in-err-check-switch : goal.returns-in-err-check-switch
+pub returns-in_err-check_switch : goal.returns-in_err-check_switch
 unfolding own
-returns-in-err-check-switch g c =
+returns-in_err-check_switch g c =
     let t = g.K.Kind.time in
     let R = all_of t (seen c.args.v) in
-    let p = err_from_is_err_and c.from-residual.result c.from-residual.ensures.1 in
-    rw (p.1, p.2) (first_front (switch_rows t R c.args.switch) (own t R c.args.switch c.args.setting) _ _ c.in-err-check-switch.ensures)
+    let p = err_from_is_err_and c.from_residual.result c.from_residual.ensures.1 in
+    rw (p.1, p.2) (first_front (switch_rows t R c.args.switch) (own t R c.args.switch c.args.setting) _ _ c.in_err-check_switch.ensures)
 
-pub setting-of-old-requires : goal.setting-of-old-requires
-setting-of-old-requires g c = record { limits = c.requires.limits; bytes = c.requires.bytes; passed = c.in-ok-check-switch.ensures }
+pub setting_of-old-requires : goal.setting_of-old-requires
+setting_of-old-requires g c = record { limits = c.requires.limits; bytes = c.requires.bytes; passed = c.in_ok-check_switch.ensures }
 
 pub returns-then-setting-gt1 : goal.returns-then-setting-gt1
 unfolding own
 returns-then-setting-gt1 g c =
     let t = g.K.Kind.time in
     let R = all_of t (seen c.args.v) in
-    first_more (switch_rows t R c.args.switch) (own t R c.args.switch c.args.setting) _ _ c.in-ok-check-switch.ensures (inl (omega arith, refl, refl))
+    first_more (switch_rows t R c.args.switch) (own t R c.args.switch c.args.setting) _ _ c.in_ok-check_switch.ensures (inl (omega arith, refl, refl))
 
 pub returns-then-old-setting : goal.returns-then-old-setting
 unfolding own
 returns-then-old-setting g c =
     let t = g.K.Kind.time in
     let R = all_of t (seen c.args.v) in
-    first_more (switch_rows t R c.args.switch) (own t R c.args.switch c.args.setting) _ _ c.in-ok-check-switch.ensures (inr ((λ h. omega arith), inl (sym c.setting-of-old.ensures ∙ c.if-old-setting.true, refl, refl)))
+    first_more (switch_rows t R c.args.switch) (own t R c.args.switch c.args.setting) _ _ c.in_ok-check_switch.ensures (inr ((λ h. omega arith), inl (sym c.setting_of-old.ensures ∙ c.if-old-setting.true, refl, refl)))
 
 pub returns : goal.returns
 unfolding own
 returns g c =
     let t = g.K.Kind.time in
     let R = all_of t (seen c.args.v) in
-    passed_more (switch_rows t R c.args.switch) (own t R c.args.switch c.args.setting) c.in-ok-check-switch.ensures ((λ h. omega arith), ((λ h. c.if-old-setting.false (c.setting-of-old.ensures ∙ h)), tt))
+    passed_more (switch_rows t R c.args.switch) (own t R c.args.switch c.args.setting) c.in_ok-check_switch.ensures ((λ h. omega arith), ((λ h. c.if-old-setting.false (c.setting_of-old.ensures ∙ h)), tt))

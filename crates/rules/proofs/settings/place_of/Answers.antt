@@ -6,8 +6,8 @@ use Rattle.rules.specs.declared.switches.Switch.{Switch}
 use Rattle.rules.proofs.Rows.{order_passed, setting_inside}
 use Rattle.rules.proofs.settings.place_of.Goals as goal
 
-pub order-place-requires : goal.order-place-requires
-order-place-requires g c =
+pub order_place-requires : goal.order_place-requires
+order_place-requires g c =
     let t = g.K.Kind.time in
     let R = all_of t (seen c.args.v) in
     let P : Switch → Type 0 = λ s. Passed (switch_rows t R s) in
@@ -17,7 +17,7 @@ pub returns-in-Order : goal.returns-in-Order
 returns-in-Order g c =
     let t = g.K.Kind.time in
     let R = all_of t (seen c.args.v) in
-    let e : c.order-place.result ≡ setting_place t R c.args.switch = c.order-place.ensures ∙ ap (setting_place t R) (sym c.in-Order.is) in
+    let e : c.order_place.result ≡ setting_place t R c.args.switch = c.order_place.ensures ∙ ap (setting_place t R) (sym c.in-Order.is) in
     record { place = e; inside = (let h = setting_inside t R c.args.switch c.requires.limits c.requires.passed in omega arith) }
 
 pub returns-in-Connection : goal.returns-in-Connection

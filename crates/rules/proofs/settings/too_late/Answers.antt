@@ -7,15 +7,15 @@ use Rattle.rules.proofs.Decisions.{decides_at}
 use Rattle.rules.proofs.Rows.{order_passed, link_passed}
 use Rattle.rules.proofs.settings.too_late.Goals as goal
 
-pub one-departed-requires : goal.one-departed-requires
-one-departed-requires g c =
+pub one_departed-requires : goal.one_departed-requires
+one_departed-requires g c =
     let t = g.K.Kind.time in
     let R = all_of t (seen c.args.v) in
     let P : Switch → Type 0 = λ s. Passed (switch_rows t R s) in
     let o = order_passed t R c.in-Order.i c.in-Order.j (subst P c.in-Order.is c.requires.passed) in (omega (arith, o.below, o.inside), o.inside)
 
-pub onward-departed-requires : goal.onward-departed-requires
-onward-departed-requires g c =
+pub onward_departed-requires : goal.onward_departed-requires
+onward_departed-requires g c =
     let t = g.K.Kind.time in
     let R = all_of t (seen c.args.v) in
     let P : Switch → Type 0 = λ s. Passed (switch_rows t R s) in
@@ -24,9 +24,9 @@ onward-departed-requires g c =
 pub returns-in-Order : goal.returns-in-Order
 returns-in-Order g c =
     let t = g.K.Kind.time in
-    decides_at (TooLate t (all_of t (seen c.args.v))) (sym c.in-Order.is) c.one-departed.ensures
+    decides_at (TooLate t (all_of t (seen c.args.v))) (sym c.in-Order.is) c.one_departed.ensures
 
 pub returns-in-Connection : goal.returns-in-Connection
 returns-in-Connection g c =
     let t = g.K.Kind.time in
-    decides_at (TooLate t (all_of t (seen c.args.v))) (sym c.in-Connection.is) c.onward-departed.ensures
+    decides_at (TooLate t (all_of t (seen c.args.v))) (sym c.in-Connection.is) c.onward_departed.ensures

@@ -2,7 +2,7 @@ use Rattle.std.proofs.Common.{refl}
 use Rattle.std.proofs.lemmas.Result.{err_from_is_err_and}
 use Rattle.plan.proofs.states.Draft.preset.Goals as goal
 
-pub returns-in-err-admit-preset : goal.returns-in-err-admit-preset
-returns-in-err-admit-preset g c =
-    let p = err_from_is_err_and c.from-residual.result c.from-residual.ensures.1 in
-    rw (p.1, p.2) (record { rows = c.in-err-admit-preset.ensures.rows; writes = refl })
+pub returns-in_err-admit_preset : goal.returns-in_err-admit_preset
+returns-in_err-admit_preset g c =
+    let p = err_from_is_err_and c.from_residual.result c.from_residual.ensures.1 in
+    rw (p.1, p.2) (record { rows = c.in_err-admit_preset.ensures.rows; writes = refl })

@@ -12,25 +12,25 @@ use Rattle.plan.proofs.Reckoned.{reckoned, refused}
 use Rattle.plan.proofs.states.Open.strike.Given as given
 use Rattle.plan.proofs.states.Open.strike.Goals as goal
 
-pub returns-in-err-admit-release : goal.returns-in-err-admit-release
-returns-in-err-admit-release g c =
+pub returns-in_err-admit_release : goal.returns-in_err-admit_release
+returns-in_err-admit_release g c =
     let t = g.K.Kind.time in
     let a = c.args in
     let l = lengths (length a.times.now) (length a.ring.now) (length a.counts.now) (length a.sums.now) (length a.befores.now) (length a.floors.now) (length a.arcs.now) (length a.tables.now) (length a.marks.now) in
     let m = open_memory a.self.now a.tracks.now a.runs.now a.connections.now a.settings.now in
-    let p = err_from_is_err_and c.from-residual.result c.from-residual.ensures.1 in
+    let p = err_from_is_err_and c.from_residual.result c.from_residual.ensures.1 in
     rw (p.1, p.2) (record {
-      reckons = refused t (release_call_rows t l m a.times.now a.self.now.number a.slip-plan a.slip-run) (register_of t (hold_memory t m a.slip-run None)) (Unit {0}) (omega arith, (omega arith, (omega arith, (omega arith, (omega arith, (omega arith, (omega arith, (omega arith, tt)))))))) a.times.now a.ring.now _ c.in-err-admit-release.ensures.rows;
+      reckons = refused t (release_call_rows t l m a.times.now a.self.now.number a.slip-plan a.slip-run) (register_of t (hold_memory t m a.slip-run None)) (Unit {0}) (omega arith, (omega arith, (omega arith, (omega arith, (omega arith, (omega arith, (omega arith, (omega arith, tt)))))))) a.times.now a.ring.now _ c.in_err-admit_release.ensures.rows;
       runs = refl;
     })
 
-pub replace-run-requires : goal.replace-run-requires
-replace-run-requires g c =
+pub replace_run-requires : goal.replace_run-requires
+replace_run-requires g c =
     let t = g.K.Kind.time in
     let a = c.args in
-    let ready = c.in-ok-admit-release.ensures.ready in
+    let ready = c.in_ok-admit_release.ensures.ready in
     let r = a.slip-run in
-    let is : c.with-hold-marked.result ≡ holding (run_at t a.runs.now r) None = c.with-hold-marked.ensures ∙ ap (λ x. holding x None) c.run-of.ensures in
+    let is : c.with_hold-marked.result ≡ holding (run_at t a.runs.now r) None = c.with_hold-marked.ensures ∙ ap (λ x. holding x None) c.run_of.ensures in
     let P : Run g.row.K.Denot → Type 0 = λ x. Stored t (open_memory a.self.now a.tracks.now (set a.runs.now r x) a.connections.now a.settings.now) in
     record {
       inside = ready.0;
@@ -39,20 +39,20 @@ replace-run-requires g c =
       stored = subst P (sym is) ready.1.stored;
     }
 
-pub returns-in-err-replace-run : goal.returns-in-err-replace-run
-returns-in-err-replace-run g c =
+pub returns-in_err-replace_run : goal.returns-in_err-replace_run
+returns-in_err-replace_run g c =
     let t = g.K.Kind.time in
     let a = c.args in
     let r = a.slip-run in
     let l = lengths (length a.times.now) (length a.ring.now) (length a.counts.now) (length a.sums.now) (length a.befores.now) (length a.floors.now) (length a.arcs.now) (length a.tables.now) (length a.marks.now) in
     let m = open_memory a.self.now a.tracks.now a.runs.now a.connections.now a.settings.now in
-    let is : c.with-hold-marked.result ≡ holding (run_at t a.runs.now r) None = c.with-hold-marked.ensures ∙ ap (λ x. holding x None) c.run-of.ensures in
-    let p = err_from_is_err_and c.from-residual-in-err-replace-run.result c.from-residual-in-err-replace-run.ensures.1 in
-    let told = c.in-err-replace-run.ensures in
-    let P : Run g.row.K.Denot → Type 0 = λ x. TimesAfter t (register_of t (open_memory a.self.now a.tracks.now (set a.runs.now r x) a.connections.now a.settings.now)) a.times.now c.replace-run.new.times (Err c.in-err-replace-run.field-0.0) in
-    let Q : Run g.row.K.Denot → Type 0 = λ x. RingAfter t (register_of t (open_memory a.self.now a.tracks.now (set a.runs.now r x) a.connections.now a.settings.now)) a.ring.now c.replace-run.new.ring (Err c.in-err-replace-run.field-0.0) in
+    let is : c.with_hold-marked.result ≡ holding (run_at t a.runs.now r) None = c.with_hold-marked.ensures ∙ ap (λ x. holding x None) c.run_of.ensures in
+    let p = err_from_is_err_and c.from_residual-in_err-replace_run.result c.from_residual-in_err-replace_run.ensures.1 in
+    let told = c.in_err-replace_run.ensures in
+    let P : Run g.row.K.Denot → Type 0 = λ x. TimesAfter t (register_of t (open_memory a.self.now a.tracks.now (set a.runs.now r x) a.connections.now a.settings.now)) a.times.now c.replace_run.new.times (Err c.in_err-replace_run.field-0.0) in
+    let Q : Run g.row.K.Denot → Type 0 = λ x. RingAfter t (register_of t (open_memory a.self.now a.tracks.now (set a.runs.now r x) a.connections.now a.settings.now)) a.ring.now c.replace_run.new.ring (Err c.in_err-replace_run.field-0.0) in
     rw (p.1, p.2) (record {
-      reckons = reckoned t (release_call_rows t l m a.times.now a.self.now.number a.slip-plan a.slip-run) (register_of t (hold_memory t m a.slip-run None)) c.in-ok-admit-release.ensures.rows a.times.now c.replace-run.new.times a.ring.now c.replace-run.new.ring (Err c.in-err-replace-run.field-0.0) (subst P is told.times) (subst Q is told.ring);
+      reckons = reckoned t (release_call_rows t l m a.times.now a.self.now.number a.slip-plan a.slip-run) (register_of t (hold_memory t m a.slip-run None)) c.in_ok-admit_release.ensures.rows a.times.now c.replace_run.new.times a.ring.now c.replace_run.new.ring (Err c.in_err-replace_run.field-0.0) (subst P is told.times) (subst Q is told.ring);
       runs = told.runs;
     })
 
@@ -63,11 +63,11 @@ returns g c =
     let r = a.slip-run in
     let l = lengths (length a.times.now) (length a.ring.now) (length a.counts.now) (length a.sums.now) (length a.befores.now) (length a.floors.now) (length a.arcs.now) (length a.tables.now) (length a.marks.now) in
     let m = open_memory a.self.now a.tracks.now a.runs.now a.connections.now a.settings.now in
-    let is : c.with-hold-marked.result ≡ holding (run_at t a.runs.now r) None = c.with-hold-marked.ensures ∙ ap (λ x. holding x None) c.run-of.ensures in
-    let told = c.in-ok-replace-run.ensures in
-    let P : Run g.row.K.Denot → Type 0 = λ x. TimesAfter t (register_of t (open_memory a.self.now a.tracks.now (set a.runs.now r x) a.connections.now a.settings.now)) a.times.now c.replace-run.new.times (Ok tt) in
-    let Q : Run g.row.K.Denot → Type 0 = λ x. RingAfter t (register_of t (open_memory a.self.now a.tracks.now (set a.runs.now r x) a.connections.now a.settings.now)) a.ring.now c.replace-run.new.ring (Ok tt) in
+    let is : c.with_hold-marked.result ≡ holding (run_at t a.runs.now r) None = c.with_hold-marked.ensures ∙ ap (λ x. holding x None) c.run_of.ensures in
+    let told = c.in_ok-replace_run.ensures in
+    let P : Run g.row.K.Denot → Type 0 = λ x. TimesAfter t (register_of t (open_memory a.self.now a.tracks.now (set a.runs.now r x) a.connections.now a.settings.now)) a.times.now c.replace_run.new.times (Ok tt) in
+    let Q : Run g.row.K.Denot → Type 0 = λ x. RingAfter t (register_of t (open_memory a.self.now a.tracks.now (set a.runs.now r x) a.connections.now a.settings.now)) a.ring.now c.replace_run.new.ring (Ok tt) in
     record {
-      reckons = reckoned t (release_call_rows t l m a.times.now a.self.now.number a.slip-plan a.slip-run) (register_of t (hold_memory t m a.slip-run None)) c.in-ok-admit-release.ensures.rows a.times.now c.replace-run.new.times a.ring.now c.replace-run.new.ring (Ok tt) (subst P is told.times) (subst Q is told.ring);
+      reckons = reckoned t (release_call_rows t l m a.times.now a.self.now.number a.slip-plan a.slip-run) (register_of t (hold_memory t m a.slip-run None)) c.in_ok-admit_release.ensures.rows a.times.now c.replace_run.new.times a.ring.now c.replace_run.new.ring (Ok tt) (subst P is told.times) (subst Q is told.ring);
       runs = told.runs ∙ ap (set a.runs.now r) is;
     }

@@ -12,24 +12,24 @@ use Rattle.plan.proofs.Reckoned.{reckoned_ok, reckoned_err, refused, turning_und
 use Rattle.plan.proofs.states.Open.trial.Given as given
 use Rattle.plan.proofs.states.Open.trial.Goals as goal
 
-pub returns-in-err-place : goal.returns-in-err-place
-returns-in-err-place g c =
+pub returns-in_err-place : goal.returns-in_err-place
+returns-in_err-place g c =
     let t = g.K.Kind.time in
     let a = c.args in
     let l = lengths (length a.trial.now) (length a.ring.now) (length a.counts.now) (length a.sums.now) (length a.befores.now) (length a.floors.now) (length a.arcs.now) (length a.tables.now) (length a.marks.now) in
     let m = open_memory a.self.now a.tracks.now a.runs.now a.connections.now a.settings.now in
-    let p = err_from_is_err_and c.from-residual.result c.from-residual.ensures.1 in
+    let p = err_from_is_err_and c.from_residual.result c.from_residual.ensures.1 in
     rw (p.1, p.2) (record {
-      reckons = refused t (turning_call_rows t l m a.times.now a.switch a.setting) (register_of t (switch_memory t m a.switch a.setting)) ℕ (turning_under t l m a.times.now a.switch a.setting) a.trial.now a.ring.now _ c.in-err-place.ensures.rows;
+      reckons = refused t (turning_call_rows t l m a.times.now a.switch a.setting) (register_of t (switch_memory t m a.switch a.setting)) ℕ (turning_under t l m a.times.now a.switch a.setting) a.trial.now a.ring.now _ c.in_err-place.ensures.rows;
       cost = tt;
       settings = refl;
     })
 
-pub try-setting-requires : goal.try-setting-requires
-try-setting-requires g c =
+pub try_setting-requires : goal.try_setting-requires
+try_setting-requires g c =
     let t = g.K.Kind.time in
     let a = c.args in
-    let ready = c.in-ok-place.ensures.ready in
+    let ready = c.in_ok-place.ensures.ready in
     let P : ℕ → Type 0 = λ p. Stored t (open_memory a.self.now a.tracks.now a.runs.now a.connections.now (set a.settings.now p a.setting)) in
     record {
       inside = ready.1;
@@ -38,19 +38,19 @@ try-setting-requires g c =
       stored = subst P (sym ready.0) ready.2.stored;
     }
 
-pub returns-in-err-cost : goal.returns-in-err-cost
-returns-in-err-cost g c =
+pub returns-in_err-cost : goal.returns-in_err-cost
+returns-in_err-cost g c =
     let t = g.K.Kind.time in
     let a = c.args in
     let l = lengths (length a.trial.now) (length a.ring.now) (length a.counts.now) (length a.sums.now) (length a.befores.now) (length a.floors.now) (length a.arcs.now) (length a.tables.now) (length a.marks.now) in
     let m = open_memory a.self.now a.tracks.now a.runs.now a.connections.now a.settings.now in
-    let is = c.in-ok-place.ensures.ready.0 in
-    let p = err_from_is_err_and c.from-residual-in-err-cost.result c.from-residual-in-err-cost.ensures.1 in
-    let told = c.in-err-cost.ensures in
-    let P : ℕ → Type 0 = λ x. TimesAfter t (register_of t (open_memory a.self.now a.tracks.now a.runs.now a.connections.now (set a.settings.now x a.setting))) a.trial.now c.try-setting.new.trial (Err c.in-err-cost.field-0.0) in
-    let Q : ℕ → Type 0 = λ x. RingAfter t (register_of t (open_memory a.self.now a.tracks.now a.runs.now a.connections.now (set a.settings.now x a.setting))) a.ring.now c.try-setting.new.ring (Err c.in-err-cost.field-0.0) in
+    let is = c.in_ok-place.ensures.ready.0 in
+    let p = err_from_is_err_and c.from_residual-in_err-cost.result c.from_residual-in_err-cost.ensures.1 in
+    let told = c.in_err-cost.ensures in
+    let P : ℕ → Type 0 = λ x. TimesAfter t (register_of t (open_memory a.self.now a.tracks.now a.runs.now a.connections.now (set a.settings.now x a.setting))) a.trial.now c.try_setting.new.trial (Err c.in_err-cost.field-0.0) in
+    let Q : ℕ → Type 0 = λ x. RingAfter t (register_of t (open_memory a.self.now a.tracks.now a.runs.now a.connections.now (set a.settings.now x a.setting))) a.ring.now c.try_setting.new.ring (Err c.in_err-cost.field-0.0) in
     rw (p.1, p.2) (record {
-      reckons = reckoned_err t (turning_call_rows t l m a.times.now a.switch a.setting) (register_of t (switch_memory t m a.switch a.setting)) ℕ c.in-err-cost.field-0.0 c.in-ok-place.ensures.rows a.trial.now c.try-setting.new.trial a.ring.now c.try-setting.new.ring (subst P is told.times) (subst Q is told.ring);
+      reckons = reckoned_err t (turning_call_rows t l m a.times.now a.switch a.setting) (register_of t (switch_memory t m a.switch a.setting)) ℕ c.in_err-cost.field-0.0 c.in_ok-place.ensures.rows a.trial.now c.try_setting.new.trial a.ring.now c.try_setting.new.ring (subst P is told.times) (subst Q is told.ring);
       cost = tt;
       settings = told.settings;
     })
@@ -61,12 +61,12 @@ returns g c =
     let a = c.args in
     let l = lengths (length a.trial.now) (length a.ring.now) (length a.counts.now) (length a.sums.now) (length a.befores.now) (length a.floors.now) (length a.arcs.now) (length a.tables.now) (length a.marks.now) in
     let m = open_memory a.self.now a.tracks.now a.runs.now a.connections.now a.settings.now in
-    let is = c.in-ok-place.ensures.ready.0 in
-    let told = c.in-ok-cost.ensures in
-    let P : ℕ → Type 0 = λ x. TimesAfter t (register_of t (open_memory a.self.now a.tracks.now a.runs.now a.connections.now (set a.settings.now x a.setting))) a.trial.now c.try-setting.new.trial (Ok tt) in
-    let Q : ℕ → Type 0 = λ x. RingAfter t (register_of t (open_memory a.self.now a.tracks.now a.runs.now a.connections.now (set a.settings.now x a.setting))) a.ring.now c.try-setting.new.ring (Ok tt) in
+    let is = c.in_ok-place.ensures.ready.0 in
+    let told = c.in_ok-cost.ensures in
+    let P : ℕ → Type 0 = λ x. TimesAfter t (register_of t (open_memory a.self.now a.tracks.now a.runs.now a.connections.now (set a.settings.now x a.setting))) a.trial.now c.try_setting.new.trial (Ok tt) in
+    let Q : ℕ → Type 0 = λ x. RingAfter t (register_of t (open_memory a.self.now a.tracks.now a.runs.now a.connections.now (set a.settings.now x a.setting))) a.ring.now c.try_setting.new.ring (Ok tt) in
     record {
-      reckons = reckoned_ok t (turning_call_rows t l m a.times.now a.switch a.setting) (register_of t (switch_memory t m a.switch a.setting)) ℕ _ c.in-ok-place.ensures.rows a.trial.now c.try-setting.new.trial a.ring.now c.try-setting.new.ring (subst P is told.times) (subst Q is told.ring);
-      cost = told.cost ∙ ap (λ x. delay_cost_lem t (register_of t (open_memory a.self.now a.tracks.now a.runs.now a.connections.now (set a.settings.now x a.setting))) (at t c.try-setting.new.trial)) is;
+      reckons = reckoned_ok t (turning_call_rows t l m a.times.now a.switch a.setting) (register_of t (switch_memory t m a.switch a.setting)) ℕ _ c.in_ok-place.ensures.rows a.trial.now c.try_setting.new.trial a.ring.now c.try_setting.new.ring (subst P is told.times) (subst Q is told.ring);
+      cost = told.cost ∙ ap (λ x. delay_cost_lem t (register_of t (open_memory a.self.now a.tracks.now a.runs.now a.connections.now (set a.settings.now x a.setting))) (at t c.try_setting.new.trial)) is;
       settings = told.settings;
     }

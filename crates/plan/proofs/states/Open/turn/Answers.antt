@@ -10,23 +10,23 @@ use Rattle.plan.proofs.Reckoned.{reckoned, refused, turning_under}
 use Rattle.plan.proofs.states.Open.turn.Given as given
 use Rattle.plan.proofs.states.Open.turn.Goals as goal
 
-pub returns-in-err-place : goal.returns-in-err-place
-returns-in-err-place g c =
+pub returns-in_err-place : goal.returns-in_err-place
+returns-in_err-place g c =
     let t = g.K.Kind.time in
     let a = c.args in
     let l = lengths (length a.times.now) (length a.ring.now) (length a.counts.now) (length a.sums.now) (length a.befores.now) (length a.floors.now) (length a.arcs.now) (length a.tables.now) (length a.marks.now) in
     let m = open_memory a.self.now a.tracks.now a.runs.now a.connections.now a.settings.now in
-    let p = err_from_is_err_and c.from-residual.result c.from-residual.ensures.1 in
+    let p = err_from_is_err_and c.from_residual.result c.from_residual.ensures.1 in
     rw (p.1, p.2) (record {
-      reckons = refused t (turning_call_rows t l m a.times.now a.switch a.setting) (register_of t (switch_memory t m a.switch a.setting)) (Unit {0}) (turning_under t l m a.times.now a.switch a.setting) a.times.now a.ring.now _ c.in-err-place.ensures.rows;
+      reckons = refused t (turning_call_rows t l m a.times.now a.switch a.setting) (register_of t (switch_memory t m a.switch a.setting)) (Unit {0}) (turning_under t l m a.times.now a.switch a.setting) a.times.now a.ring.now _ c.in_err-place.ensures.rows;
       settings = refl;
     })
 
-pub replace-setting-requires : goal.replace-setting-requires
-replace-setting-requires g c =
+pub replace_setting-requires : goal.replace_setting-requires
+replace_setting-requires g c =
     let t = g.K.Kind.time in
     let a = c.args in
-    let ready = c.in-ok-place.ensures.ready in
+    let ready = c.in_ok-place.ensures.ready in
     let P : ℕ → Type 0 = λ p. Stored t (open_memory a.self.now a.tracks.now a.runs.now a.connections.now (set a.settings.now p a.setting)) in
     record {
       inside = ready.1;
@@ -35,19 +35,19 @@ replace-setting-requires g c =
       stored = subst P (sym ready.0) ready.2.stored;
     }
 
-pub returns-in-err-replace-setting : goal.returns-in-err-replace-setting
-returns-in-err-replace-setting g c =
+pub returns-in_err-replace_setting : goal.returns-in_err-replace_setting
+returns-in_err-replace_setting g c =
     let t = g.K.Kind.time in
     let a = c.args in
     let l = lengths (length a.times.now) (length a.ring.now) (length a.counts.now) (length a.sums.now) (length a.befores.now) (length a.floors.now) (length a.arcs.now) (length a.tables.now) (length a.marks.now) in
     let m = open_memory a.self.now a.tracks.now a.runs.now a.connections.now a.settings.now in
-    let is = c.in-ok-place.ensures.ready.0 in
-    let p = err_from_is_err_and c.from-residual-in-err-replace-setting.result c.from-residual-in-err-replace-setting.ensures.1 in
-    let told = c.in-err-replace-setting.ensures in
-    let P : ℕ → Type 0 = λ x. TimesAfter t (register_of t (open_memory a.self.now a.tracks.now a.runs.now a.connections.now (set a.settings.now x a.setting))) a.times.now c.replace-setting.new.times (Err c.in-err-replace-setting.field-0.0) in
-    let Q : ℕ → Type 0 = λ x. RingAfter t (register_of t (open_memory a.self.now a.tracks.now a.runs.now a.connections.now (set a.settings.now x a.setting))) a.ring.now c.replace-setting.new.ring (Err c.in-err-replace-setting.field-0.0) in
+    let is = c.in_ok-place.ensures.ready.0 in
+    let p = err_from_is_err_and c.from_residual-in_err-replace_setting.result c.from_residual-in_err-replace_setting.ensures.1 in
+    let told = c.in_err-replace_setting.ensures in
+    let P : ℕ → Type 0 = λ x. TimesAfter t (register_of t (open_memory a.self.now a.tracks.now a.runs.now a.connections.now (set a.settings.now x a.setting))) a.times.now c.replace_setting.new.times (Err c.in_err-replace_setting.field-0.0) in
+    let Q : ℕ → Type 0 = λ x. RingAfter t (register_of t (open_memory a.self.now a.tracks.now a.runs.now a.connections.now (set a.settings.now x a.setting))) a.ring.now c.replace_setting.new.ring (Err c.in_err-replace_setting.field-0.0) in
     rw (p.1, p.2) (record {
-      reckons = reckoned t (turning_call_rows t l m a.times.now a.switch a.setting) (register_of t (switch_memory t m a.switch a.setting)) c.in-ok-place.ensures.rows a.times.now c.replace-setting.new.times a.ring.now c.replace-setting.new.ring (Err c.in-err-replace-setting.field-0.0) (subst P is told.times) (subst Q is told.ring);
+      reckons = reckoned t (turning_call_rows t l m a.times.now a.switch a.setting) (register_of t (switch_memory t m a.switch a.setting)) c.in_ok-place.ensures.rows a.times.now c.replace_setting.new.times a.ring.now c.replace_setting.new.ring (Err c.in_err-replace_setting.field-0.0) (subst P is told.times) (subst Q is told.ring);
       settings = told.settings;
     })
 
@@ -57,11 +57,11 @@ returns g c =
     let a = c.args in
     let l = lengths (length a.times.now) (length a.ring.now) (length a.counts.now) (length a.sums.now) (length a.befores.now) (length a.floors.now) (length a.arcs.now) (length a.tables.now) (length a.marks.now) in
     let m = open_memory a.self.now a.tracks.now a.runs.now a.connections.now a.settings.now in
-    let is = c.in-ok-place.ensures.ready.0 in
-    let told = c.in-ok-replace-setting.ensures in
-    let P : ℕ → Type 0 = λ x. TimesAfter t (register_of t (open_memory a.self.now a.tracks.now a.runs.now a.connections.now (set a.settings.now x a.setting))) a.times.now c.replace-setting.new.times (Ok tt) in
-    let Q : ℕ → Type 0 = λ x. RingAfter t (register_of t (open_memory a.self.now a.tracks.now a.runs.now a.connections.now (set a.settings.now x a.setting))) a.ring.now c.replace-setting.new.ring (Ok tt) in
+    let is = c.in_ok-place.ensures.ready.0 in
+    let told = c.in_ok-replace_setting.ensures in
+    let P : ℕ → Type 0 = λ x. TimesAfter t (register_of t (open_memory a.self.now a.tracks.now a.runs.now a.connections.now (set a.settings.now x a.setting))) a.times.now c.replace_setting.new.times (Ok tt) in
+    let Q : ℕ → Type 0 = λ x. RingAfter t (register_of t (open_memory a.self.now a.tracks.now a.runs.now a.connections.now (set a.settings.now x a.setting))) a.ring.now c.replace_setting.new.ring (Ok tt) in
     record {
-      reckons = reckoned t (turning_call_rows t l m a.times.now a.switch a.setting) (register_of t (switch_memory t m a.switch a.setting)) c.in-ok-place.ensures.rows a.times.now c.replace-setting.new.times a.ring.now c.replace-setting.new.ring (Ok tt) (subst P is told.times) (subst Q is told.ring);
+      reckons = reckoned t (turning_call_rows t l m a.times.now a.switch a.setting) (register_of t (switch_memory t m a.switch a.setting)) c.in_ok-place.ensures.rows a.times.now c.replace_setting.new.times a.ring.now c.replace_setting.new.ring (Ok tt) (subst P is told.times) (subst Q is told.ring);
       settings = told.settings ∙ ap (λ x. set a.settings.now x a.setting) is;
     }
