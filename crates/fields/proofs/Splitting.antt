@@ -2,8 +2,8 @@
 use Rattle.std.proofs.Common.{◌≡◌, ℕ, ◌+◌, ◌-◌, ◌*◌, ◌/◌, ◌%◌, ◌<◌, ◌≤◌, List, [], ◌∷◌, ◌++◌, length, get_or, take, drop, Some, None, Ok, Err, Option, Result, sym, refl, ap, ◌∙◌, arith, length-append, w8, Fits, Bor}
 use Rattle.std.proofs.lemmas.List.{take_at, drop_at}
 use Rattle.std.proofs.lemmas.Slice.{between_to_end}
-use Rattle.bytes.specs.Spelling.{two}
-use Rattle.bytes.proofs.Spelt.{two_once}
+use Rattle.book_bytes.specs.Spelling.{two}
+use Rattle.book_bytes.proofs.Spelt.{two_once}
 use Rattle.fields.specs.declared.faults.BookFault.{BookFault}
 use Rattle.fields.specs.declared.Found.{Found}
 use Rattle.fields.specs.Fields.{field, tag_of, body_of, Cut, Splits}

@@ -1,7 +1,7 @@
 -- The mark and the fields of a line book, and what splitting off the first field answers. Assumes nothing.
 use Rattle.std.specs.Prelude.{◌≡◌, ℕ, ◌<◌, ◌≤◌, List, [], ◌∷◌, ◌++◌, length, Some, None, Ok, Err, Option, Result, ◌≢◌}
 use Rattle.std.specs.Borrow.{Bor}
-use Rattle.bytes.specs.Spelling.{two}
+use Rattle.book_bytes.specs.Spelling.{two}
 use Rattle.fields.specs.declared.faults.BookFault.{BookFault}
 use Rattle.fields.specs.declared.faults.BookFault.TheVariants as fault
 use Rattle.fields.specs.declared.Found.{Found}

@@ -8,8 +8,8 @@ pub count_orders-requires : goal.count_orders-requires
 count_orders-requires g c =
     let cut = c.split_at.ensures in
     record {
-      few = omega (arith, cut.front-len, c.requires.few);
-      tracks = λ k h. (let below : k < c.args.n = omega (arith, cut.front-len) in
+      few = omega (arith, cut.front_len, c.requires.few);
+      tracks = λ k h. (let below : k < c.args.n = omega (arith, cut.front_len) in
           let same : track_of_lem g.K.Kind.time c.split_at.result.0.now k ≡ track_of_lem g.K.Kind.time c.args.runs.now k = ap (λ r. r.track) (cut.by_index.1 k _ below) in omega (arith, c.requires.tracks k below));
     }
 
@@ -17,4 +17,4 @@ pub returns : goal.returns
 returns g c =
     let cut = c.split_at.ensures in
     let f = track_of_lem g.K.Kind.time c.split_at.result.0.now in
-    c.count_orders.ensures ∙ ap (total f) cut.front-len ∙ total_kept f (track_of_lem g.K.Kind.time c.args.runs.now) c.args.n (λ k h. ap (λ r. r.track) (cut.by_index.1 k _ h))
+    c.count_orders.ensures ∙ ap (total f) cut.front_len ∙ total_kept f (track_of_lem g.K.Kind.time c.args.runs.now) c.args.n (λ k h. ap (λ r. r.track) (cut.by_index.1 k _ h))

@@ -1,6 +1,6 @@
 //! Numbers out of bytes, the high byte first.
 ghost use Rattle.std.specs.Prelude.{◌^◌, ◌≤◌};
-ghost use Rattle.bytes.specs.Spelling.{ReadsTwo, ReadsFour, ReadsSigned};
+ghost use Rattle.book_bytes.specs.Spelling.{ReadsTwo, ReadsFour, ReadsSigned};
 
 /// The number that two bytes spell, or none if there are not two.
 pub fn read_two(bytes: &[u8]) -> Option<u16>

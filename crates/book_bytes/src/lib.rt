@@ -3,8 +3,8 @@
 
 ghost use Rattle.std.specs.Prelude.{◌≡◌, length};
 ghost use Rattle.kinds.specs.Time.{within};
-ghost use Rattle.bytes.specs.Spelling.{Spelling, Spells, Reads};
-ghost use Rattle.bytes.specs.Kinds.{seconds_spelling, changes_spelling};
+ghost use Rattle.book_bytes.specs.Spelling.{Spelling, Spells, Reads};
+ghost use Rattle.book_bytes.specs.Kinds.{seconds_spelling, changes_spelling};
 ghost use Rattle.std.proofs.Common.{rules};
 
 use kinds::{Changes, Kind, SIZE_LIMIT, Seconds};

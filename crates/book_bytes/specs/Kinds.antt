@@ -2,7 +2,7 @@
 use Rattle.std.specs.Prelude.{◌++◌}
 use Rattle.kinds.specs.declared.Seconds.{Seconds}
 use Rattle.kinds.specs.declared.Changes.{Changes}
-use Rattle.bytes.specs.Spelling.{Spelling, four, signed}
+use Rattle.book_bytes.specs.Spelling.{Spelling, four, signed}
 
 -- code 1, four bytes: the seconds, signed
 abbrev pub seconds_spelling : Spelling Seconds

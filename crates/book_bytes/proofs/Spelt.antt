@@ -1,7 +1,7 @@
 -- Bytes and the numbers that they spell, both ways.
 use Rattle.std.proofs.Common.{◌≡◌, ℕ, ◌+◌, ◌*◌, ◌/◌, ◌%◌, ◌^◌, ◌<◌, List, [], ◌∷◌, length, get_or, ℤ, pos, negsuc, sym, refl, ap, ◌∙◌, arith, w8, w32, Fits, to_z, of_z}
 use Rattle.std.proofs.lemmas.Int.{of_z-to_z}
-use Rattle.bytes.specs.Spelling.{two, four, complement, signed}
+use Rattle.book_bytes.specs.Spelling.{two, four, complement, signed}
 
 pub complement_is : (z : ℤ) → complement z ≡ of_z w32 z
 complement_is (pos n) = refl
