@@ -17,7 +17,7 @@ returns-in_err-admit g c =
     let l = lengths (length a.times.now) a.ring a.counts a.sums a.befores a.floors a.arcs a.tables a.marks in
     let m = open_memory a.plan.now a.tracks.now a.runs.now a.connections.now a.settings.now in
     let p = err_from_is_err_and c.from_residual.result c.from_residual.ensures.1 in
-    rw (p.1, p.2) (record { rows = first_front (open_call_rows t l m a.times.now) (release_rows t (register_of t m) a.plan.now.number a.slip-plan a.slip-run) _ _ c.in_err-admit.ensures.rows; ready = tt })
+    rw (p.1, p.2) (record { rows = first_front (open_call_rows t l m a.times.now) (release_rows t (register_of t m) a.plan.now.number a.slip_plan a.slip_run) _ _ c.in_err-admit.ensures.rows; ready = tt })
 
 pub returns : goal.returns
 returns g c =
@@ -26,10 +26,10 @@ returns g c =
     let l = lengths (length a.times.now) a.ring a.counts a.sums a.befores a.floors a.arcs a.tables a.marks in
     let m = open_memory a.plan.now a.tracks.now a.runs.now a.connections.now a.settings.now in
     let is : seen c.entered.result ≡ front m = c.entered.ensures ∙ ap front c.open_view-v.ensures in
-    let P : Memory g.row.K.Denot → Type 0 = λ x. Answers plan_number plan_place (release_rows t (all_of t x) a.plan.now.number a.slip-plan a.slip-run) c.check_release.result in
-    let own : Answers plan_number plan_place (release_rows t (register_of t m) a.plan.now.number a.slip-plan a.slip-run) c.check_release.result = subst P is c.check_release.ensures in
+    let P : Memory g.row.K.Denot → Type 0 = λ x. Answers plan_number plan_place (release_rows t (all_of t x) a.plan.now.number a.slip_plan a.slip_run) c.check_release.result in
+    let own : Answers plan_number plan_place (release_rows t (register_of t m) a.plan.now.number a.slip_plan a.slip_run) c.check_release.result = subst P is c.check_release.ensures in
     let sound = c.in_ok-admit.ensures.sound in
     record {
-      rows = answers_more plan_number plan_place (open_call_rows t l m a.times.now) (release_rows t (register_of t m) a.plan.now.number a.slip-plan a.slip-run) c.check_release.result c.in_ok-admit.ensures.rows own;
-      ready = release_ready t l m a.times.now sound.0 sound.1 a.plan.now.number a.slip-plan a.slip-run c.check_release.result own;
+      rows = answers_more plan_number plan_place (open_call_rows t l m a.times.now) (release_rows t (register_of t m) a.plan.now.number a.slip_plan a.slip_run) c.check_release.result c.in_ok-admit.ensures.rows own;
+      ready = release_ready t l m a.times.now sound.0 sound.1 a.plan.now.number a.slip_plan a.slip_run c.check_release.result own;
     }
