@@ -76,9 +76,9 @@ module _ {K : Type 0} (t : Time K) where
         let inside : r < m.run_count = elim (cases_lt r (length (take m.run_count m.runs))) [ inl h ↦ omega arith | inr h ↦ absurd (a.0 h) ] in
         (omega arith, changed r (holding (run_at t m.runs r) (Some until)) inside refl (holding_stored t _ r (run_at t m.runs r) (Some until) (not_over until a.1.0) (run_good r inside)))
 
-    pub release_ready : (plan slip-plan r : ℕ) (a : Result (Unit {0}) PlanFault) → Answers plan_number plan_place (release_rows t (register_of t m) plan slip-plan r) a → IfOk a (λ _. (r < length m.runs) × Ready t l m (hold_memory t m r None))
-    release_ready plan slip-plan r (Err f) a = tt
-    release_ready plan slip-plan r (Ok x) a =
+    pub release_ready : (plan slip_plan r : ℕ) (a : Result (Unit {0}) PlanFault) → Answers plan_number plan_place (release_rows t (register_of t m) plan slip_plan r) a → IfOk a (λ _. (r < length m.runs) × Ready t l m (hold_memory t m r None))
+    release_ready plan slip_plan r (Err f) a = tt
+    release_ready plan slip_plan r (Ok x) a =
         let e = long_runs in
         let few = sound.stored.few_runs in
         let long = sound.listed.runs in

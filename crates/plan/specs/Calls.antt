@@ -114,7 +114,7 @@ module _ {K : Type 0} (t : Time K) (l : Lengths) (m : Memory K) (shown : List K)
   hold_call_rows r until = open_call_rows ++ hold_rows t (register_of t m) r until
 
   abbrev pub release_call_rows : ℕ → ℕ → ℕ → List Row
-  release_call_rows plan slip-plan slip-run = open_call_rows ++ release_rows t (register_of t m) plan slip-plan slip-run
+  release_call_rows plan slip_plan slip_run = open_call_rows ++ release_rows t (register_of t m) plan slip_plan slip_run
 
   abbrev pub turning_call_rows : Switch → ℕ → List Row
   turning_call_rows s setting = open_call_rows ++ turning_rows t (register_of t m) s setting

@@ -1,6 +1,6 @@
 //! The questions that an open plan answers. They write nothing.
 ghost use Rattle.std.specs.Prelude.{◌≡◌, ℕ, ◌<◌, ◌++◌, IfOk};
-ghost use Rattle.network.specs.Reckoning.{at as time-at};
+ghost use Rattle.network.specs.Reckoning.{at as time_at};
 ghost use Rattle.network.specs.Refusals.{Answers};
 ghost use Rattle.records.specs.Register.{register_of};
 ghost use Rattle.rules.specs.Faults.{plan_number, plan_place};
@@ -27,7 +27,7 @@ impl Open {
         event: u16,
     ) -> Result<K, PlanFault>
         ensures rows { Answers plan_number plan_place (open_rows K.Kind.time (open_memory self.now tracks.now runs.now connections.now settings.now) times.now ++ event_rows K.Kind.time (register_of K.Kind.time (open_memory self.now tracks.now runs.now connections.now settings.now)) event) result }
-        ensures value { IfOk result (λ x. x ≡ time-at K.Kind.time times.now event) }
+        ensures value { IfOk result (λ x. x ≡ time_at K.Kind.time times.now event) }
     {
         let v = open_view(self, tracks, runs, connections, settings);
         check_open(v, times)?;
@@ -65,7 +65,7 @@ impl Open {
         times: &[K],
     ) -> Result<u64, PlanFault>
         ensures rows { Answers plan_number plan_place (open_rows K.Kind.time (open_memory self.now tracks.now runs.now connections.now settings.now) times.now) result }
-        ensures value { IfOk result (λ n. n ≡ delay_cost_lem K.Kind.time (register_of K.Kind.time (open_memory self.now tracks.now runs.now connections.now settings.now)) (time-at K.Kind.time times.now)) }
+        ensures value { IfOk result (λ n. n ≡ delay_cost_lem K.Kind.time (register_of K.Kind.time (open_memory self.now tracks.now runs.now connections.now settings.now)) (time_at K.Kind.time times.now)) }
     {
         let v = open_view(self, tracks, runs, connections, settings);
         check_open(v, times)?;

@@ -1,6 +1,6 @@
 //! Trying a setting out.
 ghost use Rattle.std.specs.Prelude.{◌≡◌, ℕ, ◌*◌, ◌<◌, ◌≤◌, length, IfOk, slice_set};
-ghost use Rattle.network.specs.Reckoning.{at as time-at};
+ghost use Rattle.network.specs.Reckoning.{at as time_at};
 ghost use Rattle.records.specs.Register.{register_of};
 ghost use Rattle.records.specs.Stored.{Stored};
 ghost use Rattle.rules.specs.Rows.{RecordsListed};
@@ -74,7 +74,7 @@ fn try_setting<K: Kind>(
     requires stored { Stored K.Kind.time (open_memory plan.now tracks.now runs.now connections.now (slice_set settings.old place setting)) }
     ensures times { TimesAfter K.Kind.time (register_of K.Kind.time (open_memory plan.now tracks.now runs.now connections.now (slice_set settings.old place setting))) trial.old trial.new (done result) }
     ensures ring { RingAfter K.Kind.time (register_of K.Kind.time (open_memory plan.now tracks.now runs.now connections.now (slice_set settings.old place setting))) ring.old ring.new (done result) }
-    ensures cost { IfOk result (λ n. n ≡ delay_cost_lem K.Kind.time (register_of K.Kind.time (open_memory plan.now tracks.now runs.now connections.now (slice_set settings.old place setting))) (time-at K.Kind.time trial.new)) }
+    ensures cost { IfOk result (λ n. n ≡ delay_cost_lem K.Kind.time (register_of K.Kind.time (open_memory plan.now tracks.now runs.now connections.now (slice_set settings.old place setting))) (time_at K.Kind.time trial.new)) }
     ensures settings { settings.new ≡ settings.old }
 {
     let old = settings[place];
@@ -128,7 +128,7 @@ impl Open {
         setting: u8,
     ) -> Result<u64, PlanFault>
         ensures reckons { Reckons K.Kind.time (turning_call_rows K.Kind.time (lengths (length trial.old) (length ring.old) (length counts.old) (length sums.old) (length befores.old) (length floors.old) (length arcs.old) (length tables.old) (length marks.old)) (open_memory self.now tracks.now runs.now connections.now settings.old) times.now switch setting) (register_of K.Kind.time (switch_memory K.Kind.time (open_memory self.now tracks.now runs.now connections.now settings.old) switch setting)) trial.old trial.new ring.old ring.new result }
-        ensures cost { IfOk result (λ n. n ≡ delay_cost_lem K.Kind.time (register_of K.Kind.time (switch_memory K.Kind.time (open_memory self.now tracks.now runs.now connections.now settings.old) switch setting)) (time-at K.Kind.time trial.new)) }
+        ensures cost { IfOk result (λ n. n ≡ delay_cost_lem K.Kind.time (register_of K.Kind.time (switch_memory K.Kind.time (open_memory self.now tracks.now runs.now connections.now settings.old) switch setting)) (time_at K.Kind.time trial.new)) }
         ensures settings { settings.new ≡ settings.old }
     {
         let place = admit_turning(

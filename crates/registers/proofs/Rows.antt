@@ -65,8 +65,8 @@ module _ {K : Type 0} (t : Time K) where
     pub hold_match : (r : ℕ) (until : K) → Matching (hold_rows t R r until) (hold_rows t S r until)
     hold_match r until = records_match (λ T. hold_rows t T r until) (matching_refl (hold_rows t R r until))
 
-    pub release_match : (plan slip-plan slip-run : ℕ) → Matching (release_rows t R plan slip-plan slip-run) (release_rows t S plan slip-plan slip-run)
-    release_match plan slip-plan slip-run = records_match (λ T. release_rows t T plan slip-plan slip-run) (matching_refl (release_rows t R plan slip-plan slip-run))
+    pub release_match : (plan slip_plan slip_run : ℕ) → Matching (release_rows t R plan slip_plan slip_run) (release_rows t S plan slip_plan slip_run)
+    release_match plan slip_plan slip_run = records_match (λ T. release_rows t T plan slip_plan slip_run) (matching_refl (release_rows t R plan slip_plan slip_run))
 
     -- a ring of one is a ring of the other
     pub ring_match : Matching (ring_rows t R) (ring_rows t S)
@@ -83,6 +83,6 @@ module _ {K : Type 0} (t : Time K) where
       event = λ v. matching_answered _ _ (event_match v);
       report = λ v at. matching_answered _ _ (report_match v at);
       hold = λ r until. matching_answered _ _ (hold_match r until);
-      release = λ plan slip-plan slip-run. matching_answered _ _ (release_match plan slip-plan slip-run);
+      release = λ plan slip_plan slip_run. matching_answered _ _ (release_match plan slip_plan slip_run);
       ring = matching_answered _ _ ring_match;
     }

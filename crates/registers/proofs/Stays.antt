@@ -213,9 +213,9 @@ module _ {K : Type 0} (t : Time K) where
         let x = run_at t R.runs r in
         with_run_limits r (holding x (Some until)) h.known refl (holding_stored t (length R.tracks) r x (Some until) h.sized (limits.runs.each r h.known))
 
-    pub release_limits : (plan slip-plan slip-run : ℕ) → Passed (release_rows t R plan slip-plan slip-run) → Limits t (hold t R slip-run None)
-    release_limits plan slip-plan r p =
-        let h = release_passed t R plan slip-plan r p in
+    pub release_limits : (plan slip_plan slip_run : ℕ) → Passed (release_rows t R plan slip_plan slip_run) → Limits t (hold t R slip_run None)
+    release_limits plan slip_plan r p =
+        let h = release_passed t R plan slip_plan r p in
         let x = run_at t R.runs r in
         with_run_limits r (holding x None) h.known refl (holding_stored t (length R.tracks) r x None tt (limits.runs.each r h.known))
 

@@ -28,7 +28,7 @@ module _ {K : Type 0} (t : Time K) where
     pub event : (v : ℕ) → Answered (event_rows t R v) (event_rows t S v)
     pub report : (v : ℕ) (at : K) → Answered (report_rows t R v at) (report_rows t S v at)
     pub hold : (r : ℕ) (until : K) → Answered (hold_rows t R r until) (hold_rows t S r until)
-    pub release : (plan slip-plan slip-run : ℕ) → Answered (release_rows t R plan slip-plan slip-run) (release_rows t S plan slip-plan slip-run)
+    pub release : (plan slip_plan slip_run : ℕ) → Answered (release_rows t R plan slip_plan slip_run) (release_rows t S plan slip_plan slip_run)
     pub ring : Answered (ring_rows t R) (ring_rows t S)
 
   abbrev pub SameRows : Type 0

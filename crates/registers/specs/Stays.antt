@@ -21,7 +21,7 @@ module _ {K : Type 0} (t : Time K) where
     pub turning : (s : Switch) (v : ℕ) → Passed (turning_rows t R s v) → Limits t (set_switch R s v)
     pub reporting : (v : ℕ) (at : K) → Passed (report_rows t R v at) → Limits t (report t R v at)
     pub holding : (r : ℕ) (until : K) → Passed (hold_rows t R r until) → Limits t (hold t R r (Some until))
-    pub releasing : (plan slip-plan slip-run : ℕ) → Passed (release_rows t R plan slip-plan slip-run) → Limits t (hold t R slip-run None)
+    pub releasing : (plan slip_plan slip_run : ℕ) → Passed (release_rows t R plan slip_plan slip_run) → Limits t (hold t R slip_run None)
 
   -- a step on a draft, whatever it names
   pub record StepsDrafted (R : Register K) : Type 0 where

@@ -148,14 +148,14 @@ module _ {K : Type 0} (t : Time K) where
     waiting = none_given (run_at t R.runs r).departed p.1.1.1.0;
   }
 
-  pub record ReleasePassed (R : Register K) (plan slip-plan slip-run : ℕ) : Type 0 where
-    pub own : slip-plan ≡ plan
-    pub known : slip-run < length R.runs
-    pub held : Given (run_at t R.runs slip-run).hold
+  pub record ReleasePassed (R : Register K) (plan slip_plan slip_run : ℕ) : Type 0 where
+    pub own : slip_plan ≡ plan
+    pub known : slip_run < length R.runs
+    pub held : Given (run_at t R.runs slip_run).hold
 
-  pub release_passed : (R : Register K) (plan slip-plan slip-run : ℕ) → Passed (release_rows t R plan slip-plan slip-run) → ReleasePassed R plan slip-plan slip-run
-  release_passed R plan slip-plan slip-run p = record {
-    own = elim (cases_eq slip-plan plan) [ inl e ↦ e | inr e ↦ absurd (p.0 e) ];
-    known = below (length R.runs) slip-run p.1.0;
-    held = still_given (run_at t R.runs slip-run).hold p.1.1.0;
+  pub release_passed : (R : Register K) (plan slip_plan slip_run : ℕ) → Passed (release_rows t R plan slip_plan slip_run) → ReleasePassed R plan slip_plan slip_run
+  release_passed R plan slip_plan slip_run p = record {
+    own = elim (cases_eq slip_plan plan) [ inl e ↦ e | inr e ↦ absurd (p.0 e) ];
+    known = below (length R.runs) slip_run p.1.0;
+    held = still_given (run_at t R.runs slip_run).hold p.1.1.0;
   }

@@ -166,8 +166,8 @@ module _ {K : Type 0} where
 
     -- a slip of another plan, or of a run that is not held
     abbrev pub release_rows : Register K → ℕ → ℕ → ℕ → List Row
-    release_rows R plan slip-plan slip-run =
-        row 11 0 (slip-plan ≢ plan)
-        ∷ row 11 0 (length R.runs ≤ slip-run)
-        ∷ row 11 0 (Given (run_at t R.runs slip-run).hold → ⊥)
+    release_rows R plan slip_plan slip_run =
+        row 11 0 (slip_plan ≢ plan)
+        ∷ row 11 0 (length R.runs ≤ slip_run)
+        ∷ row 11 0 (Given (run_at t R.runs slip_run).hold → ⊥)
         ∷ []
