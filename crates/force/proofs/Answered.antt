@@ -1,11 +1,11 @@
 -- What the network answers is what is told of the constraints in force.
-use Rattle.std.proofs.Common.{◌≡◌, ℕ, ◌*◌, ◌<◌, ◌≤◌, ◌⊎◌, List, [], ◌∷◌, ◌++◌, length, get_or, take, drop, Ok, Err, Result, sym, refl, ap, ◌∙◌, subst, inl, inr, arith}
+use Rattle.std.proofs.Common.{◌≡◌, ℕ, ◌*◌, ◌<◌, ◌≤◌, List, [], ◌∷◌, ◌++◌, length, take, drop, Ok, Err, Result, sym, ap, ◌∙◌, subst, inl, inr, arith}
 use Rattle.std.proofs.lemmas.List.{get_or-take, length-take-le}
 use Rattle.kinds.specs.Time.{Time}
 use Rattle.network.specs.declared.Arc.{Arc}
 use Rattle.network.specs.declared.faults.NetworkFault.{NetworkFault}
 use Rattle.network.specs.declared.faults.NetworkFault.TheVariants as fault
-use Rattle.network.specs.Network.{HasRing, NoTable, Network}
+use Rattle.network.specs.Network.{HasRing, NoTable}
 use Rattle.network.specs.Refusals.{Row, row, Passed, First, Answers}
 use Rattle.network.specs.Faults.{network_number, network_place}
 use Rattle.network.specs.Reckoning.{at, arc_at, placed, network_of, handed, first_rows, reckon_rows, RingExactly, TimesHold, RingHolds, Stray}
@@ -16,8 +16,8 @@ use Rattle.records.specs.Stored.{Limits}
 use Rattle.force.specs.Force.{InForce}
 use Rattle.force.specs.Constraints.{arcs_in_force, in_force}
 use Rattle.force.specs.Added.{Listed, Filled}
-use Rattle.force.specs.Reckoned.{TimesAfter, RingFound, RingOnly, RingAfter}
-use Rattle.force.proofs.Alike.{Alike, turned_round, ring_there, names_there, least_there, no_table_there}
+use Rattle.force.specs.Reckoned.{TimesAfter, RingOnly, RingAfter}
+use Rattle.force.proofs.Alike.{Alike, ring_there, names_there, least_there, no_table_there}
 use Rattle.force.proofs.Fronts.{least_same}
 use Rattle.force.proofs.Sizes.{in_force_sound, in_force_fit, floor_small}
 use Rattle.force.proofs.Networks.{filled_alike}

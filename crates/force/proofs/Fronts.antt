@@ -1,8 +1,7 @@
 -- Two tables that agree at the events of a network agree in being its least times.
-use Rattle.std.proofs.Common.{◌≡◌, ℕ, ◌-◌, ◌<◌, ◌≤◌, ◌⊎◌, List, [], ◌∷◌, sym, refl, ap, ◌∙◌, subst, inl, inr, arith}
+use Rattle.std.proofs.Common.{◌≡◌, ℕ, ◌-◌, ◌<◌, ◌⊎◌, List, [], ◌∷◌, sym, refl, ap, ◌∙◌, subst, inl, inr, arith}
 use Rattle.kinds.specs.Time.{Time}
-use Rattle.network.specs.declared.Arc.{Arc}
-use Rattle.network.specs.Network.{Arcs, Network, UpTo, Chain, Reaches, Meets, LatestWalks, Equation, Least}
+use Rattle.network.specs.Network.{Network, UpTo, Chain, Reaches, Meets, LatestWalks, Equation, Least}
 use Rattle.network.proofs.Chains.{Fit}
 
 module _ {K : Type 0} (t : Time K) (N : Network K) (fit : Fit t N.events N.arcs) where

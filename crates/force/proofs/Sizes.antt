@@ -1,16 +1,15 @@
 -- The constraints in force of a register that keeps the limits can be reckoned, and its least times are within their size.
-use Rattle.std.proofs.Common.{◌≡◌, ℕ, ◌+◌, ◌-◌, ◌*◌, ◌/◌, ◌%◌, ◌<◌, ◌≤◌, true, ◌⊎◌, length, IfSome, Some, None, Option, unwrap_or, sym, refl, ap, ◌∙◌, subst, inl, inr, arith, MatchOption}
+use Rattle.std.proofs.Common.{ℕ, ◌+◌, ◌*◌, ◌/◌, ◌%◌, ◌<◌, ◌≤◌, length, IfSome, Some, None, Option, unwrap_or, sym, ap, subst, inl, inr, arith, MatchOption}
 use Rattle.std.proofs.lemmas.Bool.{cases_eq, cond_both}
 use Rattle.kinds.specs.Time.{Time, Laws}
 use Rattle.network.specs.declared.Arc.{Arc}
 use Rattle.network.specs.Network.{Least}
 use Rattle.network.proofs.Chains.{Fit, grows}
 use Rattle.records.specs.declared.Run.{Run}
-use Rattle.records.specs.Records.{track_at}
 use Rattle.records.specs.Register.{Register}
 use Rattle.records.specs.Stored.{Sized, SizedIfAny, Duration, Limits}
 use Rattle.force.specs.Force.{InForce, running, dwell, connection, departures, arrivals, meeting, Joins, Ahead, run_in, track_in}
-use Rattle.force.specs.Floors.{held, departure_floor_lem, arrival_floor_lem, floor_of}
+use Rattle.force.specs.Floors.{held, floor_of}
 use Rattle.force.specs.Constraints.{arcs_in_force, in_force}
 use Rattle.force.proofs.Fills.{floor_even, floor_odd}
 

@@ -1,9 +1,8 @@
 -- All arcs that are added are all that are in force.
-use Rattle.std.proofs.Common.{◌≡◌, ℕ, ◌+◌, ◌*◌, ◌<◌, ◌≤◌, ◌⊎◌, List, length, sym, refl, ap, ◌∙◌, subst, inl, inr, arith}
+use Rattle.std.proofs.Common.{◌≡◌, ℕ, ◌⊎◌, List, length, sym, subst, inl, inr, arith}
 use Rattle.kinds.specs.Time.{Time}
 use Rattle.network.specs.declared.Arc.{Arc}
 use Rattle.records.specs.Records.{track_at}
-use Rattle.records.specs.Places.{Ordered}
 use Rattle.records.specs.Register.{Register}
 use Rattle.force.specs.Added.{Added, Listed, RunArcs, OrderArcs, ConnectionArcs, Follows}
 use Rattle.force.specs.Force.{InForce, running, dwell, connection, departures, arrivals, meeting, Ahead, run_in, track_in}

@@ -1,5 +1,5 @@
 -- The constraints in force: the network of a register's floors and arcs. Assumes nothing.
-use Rattle.std.specs.Prelude.{ℕ, ◌*◌, length}
+use Rattle.std.specs.Prelude.{◌*◌, length}
 use Rattle.kinds.specs.Time.{Time}
 use Rattle.network.specs.declared.Arc.{Arc}
 use Rattle.network.specs.Network.{Arcs, Network}

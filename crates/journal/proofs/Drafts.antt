@@ -1,9 +1,9 @@
 -- The calls on a draft as steps from books to books.
-use Rattle.std.proofs.Common.{◌≡◌, ℕ, ◌+◌, ◌<◌, ◌≤◌, Bool, true, false, List, [], ◌∷◌, ◌++◌, length, get_or, take, set, Ok, Err, Option, sym, refl, ap, ◌∙◌, subst, inl, inr, arith}
+use Rattle.std.proofs.Common.{◌≡◌, ℕ, ◌+◌, ◌<◌, ◌≤◌, false, List, ◌++◌, length, take, set, Ok, Err, Option, sym, refl, ap, ◌∙◌, subst, inr, arith}
 use Rattle.std.proofs.lemmas.Bool.{false≢true}
 use Rattle.std.proofs.lemmas.List.{length-take-le, length_push}
 use Rattle.kinds.specs.Time.{Time}
-use Rattle.network.specs.Refusals.{Row, row, Passed, First}
+use Rattle.network.specs.Refusals.{Row, Passed, First}
 use Rattle.records.specs.declared.Track.{Track}
 use Rattle.records.specs.declared.Run.{Run}
 use Rattle.records.specs.declared.Connection.{Connection}
@@ -37,14 +37,13 @@ use Rattle.journal.specs.declared.calls.Answer.{Answer}
 use Rattle.journal.specs.declared.calls.Answer.TheVariants as answer
 use Rattle.registers.proofs.Forces.{force_shared, same_limits}
 use Rattle.journal.specs.declared.calls.Call.{Call}
-use Rattle.journal.specs.declared.calls.CallFault.{CallFault}
 use Rattle.journal.specs.declared.calls.CallFault.TheVariants as fault
 use Rattle.journal.specs.declared.calls.Plan.TheVariants as stage
 use Rattle.network.proofs.Refusals.{Under}
 use Rattle.journal.proofs.Told.{none_told}
 use Rattle.journal.specs.Books.{Books, with_register, taken}
 use Rattle.journal.specs.Rows.{Sizes, AllListed, drafting, call_rows}
-use Rattle.journal.specs.Promise.{State, state, Stands, Told, Carries, to_force}
+use Rattle.journal.specs.Promise.{state, Stands, Told, Carries, to_force}
 
 -- equal lists of rows
 first_at : (xs ys : List Row) → xs ≡ ys → (n p : ℕ) → First xs n p → First ys n p

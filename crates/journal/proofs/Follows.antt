@@ -1,7 +1,6 @@
 -- What follows for every plan that stands for books.
-use Rattle.std.proofs.Common.{◌≡◌, ℕ, Bool, true, false, ◌⊎◌, List, ◌∷◌, ◌++◌, get_or, take, Some, None, refl, inl, inr, arith}
+use Rattle.std.proofs.Common.{◌≡◌, ℕ, Bool, true, false, List, ◌∷◌, ◌++◌, get_or, take, Some, None, refl, inl, inr, arith}
 use Rattle.kinds.specs.Time.{Time, Laws}
-use Rattle.network.specs.Network.{Names}
 use Rattle.network.specs.Reckoning.{at}
 use Rattle.network.specs.Refusals.{Row, row, First}
 use Rattle.records.specs.Register.{register_of}
@@ -13,7 +12,6 @@ use Rattle.registers.specs.Steps.{report, hold}
 use Rattle.registers.specs.Rings.{RingFree}
 use Rattle.registers.proofs.Forces.{same_limits}
 use Rattle.registers.proofs.Rings.{never_ring_lem}
-use Rattle.journal.specs.declared.calls.Call.{Call}
 use Rattle.journal.specs.declared.calls.Call.TheVariants as call
 use Rattle.journal.specs.Books.{Books}
 use Rattle.journal.specs.Rows.{AllListed}

@@ -1,11 +1,11 @@
 -- Holds and releases as steps from books to books: the slip of a held run lies in its slot.
-use Rattle.std.proofs.Common.{◌≡◌, ℕ, zero, suc, ◌<◌, ◌≤◌, Bool, true, false, ◌⊎◌, List, [], ◌∷◌, ◌++◌, map, length, get_or, take, set, is_some, Some, None, Ok, Err, Option, sym, refl, ap, ◌∙◌, subst, inl, inr, arith, length-set}
+use Rattle.std.proofs.Common.{◌≡◌, ℕ, zero, suc, ◌<◌, ◌≤◌, true, false, ◌⊎◌, List, [], ◌∷◌, ◌++◌, map, length, get_or, take, set, is_some, Some, None, Ok, Err, Option, sym, refl, ap, ◌∙◌, subst, inl, inr, arith, length-set}
 use Rattle.std.proofs.lemmas.Bool.{false≢true, cases_eq}
 use Rattle.std.proofs.lemmas.List.{length-take, length-take-le, get_or-set_same, get_or-set_other, map-set}
 use Rattle.kinds.specs.Time.{Time, Laws}
 use Rattle.network.specs.Network.{Least}
 use Rattle.network.specs.Reckoning.{at}
-use Rattle.network.specs.Refusals.{Row, row, Passed, First}
+use Rattle.network.specs.Refusals.{Passed, First}
 use Rattle.records.specs.declared.Track.{Track}
 use Rattle.records.specs.declared.Run.{Run}
 use Rattle.records.specs.declared.Connection.{Connection}
@@ -16,8 +16,7 @@ use Rattle.force.specs.Constraints.{in_force}
 use Rattle.rules.specs.Rows.{RecordsListed, Given, hold_rows, release_rows, Over}
 use Rattle.rules.specs.declared.faults.PlanFault.{PlanFault}
 use Rattle.rules.specs.declared.faults.PlanFault.TheVariants as refused
-use Rattle.rules.specs.Faults.{plan_number, plan_place}
-use Rattle.rules.proofs.Rows.{passed_front, passed_back, hold_passed, release_passed}
+use Rattle.rules.proofs.Rows.{passed_front, passed_back, hold_passed}
 use Rattle.plan.specs.declared.states.Open.{Open}
 use Rattle.plan.specs.declared.states.Slip.{Slip}
 use Rattle.plan.specs.States.{open_memory}
@@ -36,8 +35,8 @@ use Rattle.journal.specs.declared.calls.Answer.TheVariants as answer
 use Rattle.journal.specs.declared.calls.CallFault.TheVariants as fault
 use Rattle.journal.specs.declared.calls.Plan.TheVariants as stage
 use Rattle.journal.specs.Books.{Books, taken}
-use Rattle.journal.specs.Rows.{Sizes, AllListed, controlling, call_rows}
-use Rattle.journal.specs.Promise.{state, Stands, Told, RingTold}
+use Rattle.journal.specs.Rows.{Sizes, AllListed, call_rows}
+use Rattle.journal.specs.Promise.{state, Stands, Told}
 use Rattle.network.proofs.Refusals.{passed_more}
 use Rattle.journal.proofs.Rules.{hold_under}
 use Rattle.journal.proofs.Reckonings.{reckoned_taken, reckoned_refused}

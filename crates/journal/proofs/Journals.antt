@@ -1,5 +1,5 @@
 -- One more line of a journal. Assumes nothing.
-use Rattle.std.proofs.Common.{◌≡◌, ℕ, zero, suc, ◌+◌, ◌<◌, Bool, true, false, List, [], ◌∷◌, ◌++◌, map, length, get_or, take, set, replicate, is_some, Some, None, Option, sym, refl, ap, ◌∙◌, subst, arith}
+use Rattle.std.proofs.Common.{◌≡◌, ℕ, zero, suc, ◌+◌, ◌<◌, false, List, [], ◌∷◌, ◌++◌, map, length, get_or, take, set, replicate, is_some, Option, sym, refl, ap, ◌∙◌, subst, arith}
 use Rattle.std.proofs.lemmas.List.{take_more_set}
 use Rattle.std.proofs.lemmas.Bool.{false≢true}
 use Rattle.kinds.specs.Time.{Time}
@@ -12,7 +12,7 @@ use Rattle.plan.specs.declared.states.Slip.{Slip}
 use Rattle.plan.specs.Drafting.{blank}
 use Rattle.plan.specs.Calls.{Lengths, lengths}
 use Rattle.journal.specs.declared.calls.Plan.TheVariants as stage
-use Rattle.journal.specs.Books.{Books, Reply, after, registered, new}
+use Rattle.journal.specs.Books.{Books, after, registered, new}
 use Rattle.journal.proofs.Holds.{get_d_map}
 use Rattle.journal.specs.Rows.{Sizes, sizes}
 use Rattle.journal.specs.Promise.{Told, ToldAll, State, Stands, Step, Steps, state, call_of}

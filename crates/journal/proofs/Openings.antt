@@ -1,21 +1,20 @@
 -- Opening a draft as a step from books to books.
-use Rattle.std.proofs.Common.{◌≡◌, ℕ, ◌<◌, Bool, true, false, List, [], ◌∷◌, ◌++◌, length, get_or, Some, None, Ok, Err, Option, sym, refl, ap, ◌∙◌, subst, arith}
+use Rattle.std.proofs.Common.{◌≡◌, ℕ, ◌<◌, true, false, List, [], length, get_or, Ok, Err, Option, sym, refl, ◌∙◌, subst}
 use Rattle.std.proofs.lemmas.Bool.{false≢true}
 use Rattle.kinds.specs.Time.{Time}
-use Rattle.network.specs.Refusals.{Row, Passed}
-use Rattle.network.proofs.Refusals.{passed_more}
+use Rattle.network.specs.Refusals.{Passed}
 use Rattle.records.specs.declared.Track.{Track}
 use Rattle.records.specs.declared.Run.{Run}
 use Rattle.records.specs.declared.Connection.{Connection}
 use Rattle.records.specs.Records.{run_at}
-use Rattle.records.specs.Register.{Register, register_of}
+use Rattle.records.specs.Register.{register_of}
 use Rattle.rules.specs.declared.faults.PlanFault.{PlanFault}
-use Rattle.rules.specs.Rows.{RecordsListed, draft_rows, Given}
+use Rattle.rules.specs.Rows.{RecordsListed, Given}
 use Rattle.plan.specs.declared.states.Draft.{Draft}
 use Rattle.plan.specs.declared.states.Open.{Open}
 use Rattle.plan.specs.declared.states.Slip.{Slip}
 use Rattle.plan.specs.States.{draft_memory}
-use Rattle.plan.specs.Calls.{Lengths, Listed, length_rows, opening_rows, ring_rows, Reckons}
+use Rattle.plan.specs.Calls.{Lengths, Listed, opening_rows, ring_rows, Reckons}
 use Rattle.plan.proofs.Reckoned.{failed, taken as took}
 use Rattle.journal.specs.declared.calls.Call.TheVariants as call
 use Rattle.journal.specs.declared.calls.Answer.TheVariants as answer

@@ -1,57 +1,35 @@
 -- The questions on a plan, as answers over its books.
-use Rattle.std.proofs.Common.{◌≡◌, ℕ, ◌+◌, ◌*◌, ◌/◌, ◌%◌, ◌<◌, ◌≤◌, Bool, true, false, ◌⊎◌, List, [], ◌∷◌, ◌++◌, map, length, get_or, take, set, is_some, Some, None, Ok, Err, Option, sym, refl, ap, ◌∙◌, subst, inl, inr, arith, length-set}
-use Rattle.std.proofs.lemmas.Bool.{false≢true, cases_eq, cases_lt}
-use Rattle.std.proofs.lemmas.List.{length-take-le, get_or-set_same, get_or-set_other}
-use lib.Seq.{set_out}
+use Rattle.std.proofs.Common.{◌≡◌, ℕ, List, ◌++◌, length, Ok, Err, Option, ap, ◌∙◌, inr}
 use Rattle.kinds.specs.Time.{Time, Laws}
-use Rattle.network.specs.Network.{Least}
 use Rattle.network.specs.Reckoning.{at}
-use Rattle.network.specs.Refusals.{Row, row, Passed, First}
+use Rattle.network.specs.Refusals.{Passed, First}
 use Rattle.records.specs.declared.Track.{Track}
 use Rattle.records.specs.declared.Run.{Run}
 use Rattle.records.specs.declared.Connection.{Connection}
-use Rattle.records.specs.Records.{run_at}
 use Rattle.records.specs.Register.{Register, Memory, register_of}
-use Rattle.records.specs.Stored.{Stored, Limits, Shown}
-use Rattle.force.specs.Constraints.{in_force}
-use Rattle.force.proofs.Sizes.{least_small}
 use Rattle.cost.specs.Cost.{delay_cost_lem}
 use Rattle.rules.specs.declared.faults.PlanFault.{PlanFault}
 use Rattle.rules.specs.declared.switches.Switch.{Switch}
-use Rattle.rules.specs.declared.switches.Switch.TheVariants as switch
 use Rattle.rules.specs.Faults.{plan_number, plan_place}
-use Rattle.rules.specs.Rows.{RecordsListed, open_rows, Given, report_rows, turning_rows, hold_rows, event_rows, switch_rows, setting_of_lem, setting_place}
-use Rattle.rules.proofs.Rows.{passed_front, passed_back, report_passed, setting_named, turning_set}
+use Rattle.rules.specs.Rows.{RecordsListed, open_rows, event_rows, switch_rows, setting_of_lem}
+use Rattle.rules.proofs.Rows.{passed_back}
 use Rattle.plan.specs.declared.states.Open.{Open}
 use Rattle.plan.specs.declared.states.Slip.{Slip}
 use Rattle.plan.specs.States.{open_memory}
-use Rattle.plan.specs.Steps.{reported, holding, with_runs, with_settings, report_memory, hold_memory, switch_memory}
-use Rattle.plan.specs.Calls.{Lengths, Listed, length_rows, open_call_rows, ring_rows, Reckons}
-use Rattle.plan.proofs.Reckoned.{failed, taken as took}
-use Rattle.registers.specs.Steps.{Same, report, hold, set_switch}
-use Rattle.registers.specs.Rows.{Answered, RowsShared}
-use Rattle.registers.specs.Stays.{LimitsKept}
-use Rattle.registers.proofs.Sames.{same_sym, same_trans}
-use Rattle.registers.proofs.Forces.{force_shared, same_limits}
-use Rattle.registers.proofs.Kept.{report_kept, hold_kept, set_switch_kept}
-use Rattle.registers.proofs.Agrees.{steps_of}
-use Rattle.registers.proofs.Matches.{Matching, first_behind, answered, matching_refl}
-use Rattle.registers.proofs.Rows.{rows_shared, report_match, turning_match, hold_match}
-use Rattle.journal.specs.declared.calls.Call.{Call}
+use Rattle.registers.proofs.Matches.{first_behind}
+use Rattle.registers.proofs.Rows.{rows_shared}
 use Rattle.journal.specs.declared.calls.Call.TheVariants as call
-use Rattle.journal.specs.declared.calls.Answer.{Answer}
 use Rattle.journal.specs.declared.calls.Answer.TheVariants as answer
 use Rattle.journal.specs.declared.calls.CallFault.TheVariants as fault
 use Rattle.journal.specs.declared.calls.Plan.TheVariants as stage
-use Rattle.journal.specs.Books.{Books, with_register, taken}
-use Rattle.journal.specs.Rows.{Sizes, AllListed, controlling, call_rows}
-use Rattle.journal.specs.Promise.{state, Stands, Told, Carries, RingTold, to_force}
-use Rattle.network.proofs.Refusals.{Under}
+use Rattle.journal.specs.Books.{Books}
+use Rattle.journal.specs.Rows.{Sizes, AllListed}
+use Rattle.journal.specs.Promise.{state, Stands, Told}
 use Rattle.journal.proofs.Told.{none_told}
 use Rattle.journal.proofs.Rules.{event_under, switch_under}
 use Rattle.network.proofs.Refusals.{first_not_passed}
 use Rattle.registers.proofs.Rows.{setting_same}
-use Rattle.journal.proofs.Controls.{opened, open_passed, fronts_first, time_step, cost_step}
+use Rattle.journal.proofs.Controls.{open_passed, fronts_first, time_step, cost_step}
 
 module _ {K : Type 0} (t : Time K) (laws : Laws t) (o : Open) (tracks : List (Track K)) (runs : List (Run K)) (connections : List (Connection K)) (settings : List ℕ) (times : List K) (slips : List (Option Slip))
     (B : Books K) (st : Stands t B (state (stage.Open o) tracks runs connections settings times slips)) (records : RecordsListed (open_memory o tracks runs connections settings)) (long-times : length times ≡ 1024) (l : Sizes) (listed : AllListed l) (ring ring' : List ℕ) (trial : List K) where

@@ -1,5 +1,5 @@
 -- From what a call on a plan promises of its memory to what the list promises of its books.
-use Rattle.std.proofs.Common.{◌≡◌, ℕ, ◌⊎◌, List, [], ◌∷◌, ◌++◌, Ok, Err, refl, inl, inr}
+use Rattle.std.proofs.Common.{ℕ, ◌⊎◌, List, [], ◌∷◌, ◌++◌, Err, inl, inr}
 use Rattle.kinds.specs.Time.{Time}
 use Rattle.network.specs.declared.faults.NetworkFault.TheVariants as network
 use Rattle.network.specs.Network.{Least, NoTable}

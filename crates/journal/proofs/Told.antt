@@ -1,5 +1,5 @@
 -- A refusal that is not for a ring names none.
-use Rattle.std.proofs.Common.{ℕ, List, Ok, Err}
+use Rattle.std.proofs.Common.{ℕ, List, Err}
 use Rattle.kinds.specs.Time.{Time}
 use Rattle.network.specs.declared.faults.NetworkFault.TheVariants as network
 use Rattle.network.specs.Refusals.{Row, First}

@@ -1,6 +1,6 @@
 -- The books of a plan: what its calls said, folded from the calls and from which of them were taken. They look at no memory.
 -- Assumes nothing.
-use Rattle.std.specs.Prelude.{ℕ, Bool, true, false, List, [], ◌∷◌, replicate, Some, None, Ok, Err, Option, Result, slice_set}
+use Rattle.std.specs.Prelude.{ℕ, Bool, true, false, List, [], ◌∷◌, replicate, Some, None, Ok, Err, Result, slice_set}
 use Rattle.kinds.specs.Time.{Time}
 use Rattle.records.specs.Register.{Register}
 use Rattle.registers.specs.Steps.{empty, enter_track, enter_run, enter_connection, set_switch, report, hold}

@@ -1,5 +1,5 @@
 -- What a plan promises of each answer, and of every list of calls. Assumes nothing.
-use Rattle.std.specs.Prelude.{◌≡◌, ℕ, ◌<◌, Bool, true, false, List, [], ◌∷◌, map, length, take, is_some, Some, None, Ok, Err, Option, Result, slice_index_or}
+use Rattle.std.specs.Prelude.{◌≡◌, ℕ, ◌<◌, Bool, true, false, List, [], ◌∷◌, map, length, take, is_some, Some, None, Ok, Err, Option, slice_index_or}
 use Rattle.kinds.specs.Time.{Time}
 use Rattle.network.specs.declared.faults.NetworkFault.TheVariants as network
 use Rattle.network.specs.Network.{Least, Names}
@@ -17,13 +17,11 @@ use Rattle.rules.specs.declared.faults.PlanFault.TheVariants as refused
 use Rattle.rules.specs.Rows.{Given, setting_of_lem}
 use Rattle.plan.specs.declared.states.Slip.{Slip}
 use Rattle.plan.specs.States.{draft_memory, open_memory}
-use Rattle.plan.specs.Calls.{Lengths, lengths}
 use Rattle.registers.specs.Steps.{Same, set_switch}
 use Rattle.journal.specs.declared.calls.Call.{Call}
 use Rattle.journal.specs.declared.calls.Call.TheVariants as call
 use Rattle.journal.specs.declared.calls.Answer.{Answer}
 use Rattle.journal.specs.declared.calls.Answer.TheVariants as answer
-use Rattle.journal.specs.declared.calls.CallFault.{CallFault}
 use Rattle.journal.specs.declared.calls.CallFault.TheVariants as fault
 use Rattle.journal.specs.declared.calls.Line.{Line}
 use Rattle.journal.specs.declared.calls.Plan.{Plan}

@@ -1,10 +1,9 @@
 -- The refusals of a call of a list, over the books alone: 0 where the plan's state does not have the call, 1 where a memory has
 -- another length than listed, and then the call's own rows. Assumes nothing.
-use Rattle.std.specs.Prelude.{◌≡◌, ℕ, Bool, true, false, List, [], ◌∷◌, ◌++◌, Some, None, slice_index_or}
+use Rattle.std.specs.Prelude.{◌≡◌, ℕ, true, false, List, [], ◌∷◌, ◌++◌, Some, None, slice_index_or}
 use Rattle.kinds.specs.Time.{Time}
 use Rattle.network.specs.Refusals.{Row, row}
-use Rattle.records.specs.Register.{Register, Memory}
-use Rattle.rules.specs.Rows.{RecordsListed, track_rows, run_rows, connection_rows, switch_rows, setting_rows, turning_rows, event_rows, report_rows, hold_rows}
+use Rattle.rules.specs.Rows.{track_rows, run_rows, connection_rows, switch_rows, setting_rows, turning_rows, event_rows, report_rows, hold_rows}
 use Rattle.plan.specs.Calls.{Lengths, Listed, ring_rows}
 use Rattle.registers.specs.Steps.{set_switch, report, hold}
 use Rattle.journal.specs.declared.calls.Call.{Call}

@@ -1,11 +1,10 @@
 -- The two kinds of the base keep the laws.
-use Rattle.std.specs.Prelude.{◌≡◌, ℕ, ◌+◌, ◌-◌, ◌≤◌, max, Bool, true, false, cond, ℤ, pos, negsuc, ◌+ℤ◌, ◌-ℤ◌, nat_abs, refl}
+use Rattle.std.specs.Prelude.{◌≡◌, ℕ, ℤ}
 use Rattle.std.proofs.Common.{ap, arith}
-use Rattle.std.specs.Int.Signed.{lt_z, le_z}
 use Rattle.std.proofs.lemmas.Int.{ints}
 use Rattle.std.proofs.lemmas.Bool.Decides.{nat_tests}
-use Rattle.kinds.specs.Time.{Time, Laws}
-use Rattle.kinds.specs.Models.{seconds_time, changes_time, over}
+use Rattle.kinds.specs.Time.{Laws}
+use Rattle.kinds.specs.Models.{seconds_time, changes_time}
 use Rattle.kinds.specs.declared.Seconds.{Seconds}
 use Rattle.kinds.specs.declared.Changes.{Changes}
 

@@ -1,5 +1,5 @@
 -- What seconds, and seconds with changes, mean. Assumes nothing.
-use Rattle.std.specs.Prelude.{ℕ, ◌+◌, max, Bool, cond, ◌&&◌, ◌||◌, ℤ, pos, ◌+ℤ◌, ◌-ℤ◌, int_le, int_lt, nat_le, unsigned_abs}
+use Rattle.std.specs.Prelude.{ℕ, ◌+◌, max, cond, ◌&&◌, ◌||◌, ℤ, pos, ◌+ℤ◌, ◌-ℤ◌, int_le, int_lt, nat_le, unsigned_abs}
 use Rattle.kinds.specs.Time.{Time}
 use Rattle.kinds.specs.declared.Seconds.{Seconds}
 use Rattle.kinds.specs.declared.Changes.{Changes}

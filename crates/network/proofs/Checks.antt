@@ -1,5 +1,5 @@
 -- What is known of a network once no refusal applies.
-use Rattle.std.proofs.Common.{◌≡◌, ℕ, ◌+◌, ◌<◌, ◌≤◌, min, ◌⊎◌, List, [], length, get_or, take, drop, sym, refl, ap, ◌∙◌, inl, inr, arith}
+use Rattle.std.proofs.Common.{◌≡◌, ℕ, ◌<◌, ◌≤◌, min, List, length, take, sym, refl, ap, ◌∙◌, inl, inr, arith}
 use Rattle.std.proofs.lemmas.Bool.{cases_eq, cases_lt}
 use Rattle.std.proofs.lemmas.List.{length-take-le, take_all}
 use Rattle.kinds.specs.Time.{Time}
@@ -8,7 +8,7 @@ use Rattle.network.specs.declared.faults.NetworkFault.{NetworkFault}
 use Rattle.network.specs.declared.faults.NetworkFault.TheVariants as fault
 use Rattle.network.specs.Refusals.{Passed, First}
 use Rattle.network.specs.Faults.{network_number, network_place}
-use Rattle.network.specs.Reckoning.{at, arc_at, Lengths, length_rows, Handed, first_rows, RingAfter, SomeOf, Stray}
+use Rattle.network.specs.Reckoning.{arc_at, Lengths, length_rows, Handed, first_rows, RingAfter, Stray}
 use Rattle.network.specs.Rounds.{Sound, Sized}
 use Rattle.network.proofs.Strays.{some_at}
 use Rattle.network.proofs.Refusals.{first_under}

@@ -1,14 +1,13 @@
 -- The marks of the events that a trace has come through.
-use Rattle.std.proofs.Common.{◌≡◌, ℕ, zero, suc, ◌+◌, ◌-◌, ◌*◌, ◌<◌, ◌≤◌, ◌≢◌, ◌⊎◌, List, [], ◌∷◌, ◌++◌, length, get_or, take, drop, set, replicate, sym, refl, ap, ◌∙◌, subst, inl, inr, arith, below_more}
+use Rattle.std.proofs.Common.{◌≡◌, ℕ, ◌+◌, ◌<◌, ◌≤◌, ◌⊎◌, List, ◌∷◌, length, get_or, take, set, replicate, ap, ◌∙◌, inl, inr, arith, below_more}
 use Rattle.std.specs.List.{AllByRecursion as All}
 use Rattle.std.proofs.lemmas.Bool.{cases_eq}
 use Rattle.std.proofs.ByRecursion.{All-from_get_or}
-use Rattle.std.proofs.lemmas.List.{length-take, get_or-take, get_or-set_same, get_or-set_other, length-set, get_or-replicate}
-use Rattle.kinds.specs.Time.{Time, Laws}
+use Rattle.std.proofs.lemmas.List.{length-take, get_or-take, get_or-set_same, get_or-set_other, get_or-replicate}
+use Rattle.kinds.specs.Time.{Time}
 use Rattle.network.specs.declared.Arc.{Arc}
 use Rattle.network.specs.Network.{ends, Apart, Lacks}
 use Rattle.network.specs.Reckoning.{arc_at, placed}
-use Rattle.network.specs.Rounds.{Sound}
 use Rattle.network.proofs.Pigeons.{pigeon, apart_by, lacks_other}
 use Rattle.network.proofs.Chains.{length_ends}
 use Rattle.network.proofs.Traces.{event_at}

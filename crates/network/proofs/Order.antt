@@ -1,5 +1,5 @@
 -- What the laws give of the order alone.
-use Rattle.std.proofs.Common.{◌≡◌, Bool, true, false, sym, refl, ap, arith}
+use Rattle.std.proofs.Common.{◌≡◌, Bool, true, false, refl}
 use Rattle.std.proofs.lemmas.Bool.{both_ways}
 use Rattle.kinds.specs.Time.{Time, Laws}
 use Rattle.network.specs.Network.{UpTo, After}

@@ -1,6 +1,6 @@
 -- Laws of refusal rows: more rows behind those that do not apply.
-use Rattle.std.proofs.Common.{◌≡◌, ℕ, ◌<◌, ◌⊎◌, List, [], ◌∷◌, ◌++◌, Ok, Err, Result, inl, inr, arith}
-use Rattle.network.specs.Refusals.{Row, row, Passed, First, Answers}
+use Rattle.std.proofs.Common.{ℕ, ◌<◌, List, [], ◌∷◌, ◌++◌, Ok, Err, Result, inl, inr, arith}
+use Rattle.network.specs.Refusals.{Row, Passed, First, Answers}
 
 pub passed_more : (xs ys : List Row) → Passed xs → Passed ys → Passed (xs ++ ys)
 passed_more [] ys p q = q

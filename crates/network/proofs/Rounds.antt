@@ -1,5 +1,5 @@
 -- One arc more in a round.
-use Rattle.std.proofs.Common.{◌≡◌, ℕ, ◌+◌, ◌<◌, ◌≤◌, Bool, true, false, leb, ◌≢◌, ◌⊎◌, List, length, get_or, set, Some, None, Option, sym, refl, ap, ◌∙◌, subst, inl, inr, arith, below_more}
+use Rattle.std.proofs.Common.{◌≡◌, ℕ, ◌+◌, ◌<◌, ◌≤◌, leb, ◌≢◌, List, length, get_or, set, Some, None, sym, refl, ◌∙◌, inl, inr, arith, below_more}
 use Rattle.std.proofs.lemmas.List.{get_or-set_same, get_or-set_other, get_or_read}
 use Rattle.std.proofs.lemmas.Bool.{cases_eq, le-leb, cond-true, cases_cond}
 use Rattle.kinds.specs.Time.{Time, Laws}
@@ -8,7 +8,7 @@ use Rattle.kinds.specs.Time.{within}
 use Rattle.network.specs.Network.{UpTo, After}
 use Rattle.network.specs.Reckoning.{at, arc_at}
 use Rattle.network.specs.Rounds.{Round, Source, Sound, Sized}
-use Rattle.network.proofs.Order.{upto_refl, after_upto, upto_same}
+use Rattle.network.proofs.Order.{after_upto, upto_same}
 
 -- an answer that is there is the value, and one within the limit is there
 pub some_is : {A : Type 0} (n : ℕ) (x z : A) → Some x ≡ within n z → x ≡ z

@@ -1,9 +1,9 @@
 -- The memory of rows: a write to row k leaves the rows before it.
-use Rattle.std.proofs.Common.{◌≡◌, ℕ, suc, ◌+◌, ◌-◌, ◌*◌, ◌<◌, ◌≤◌, List, [], ◌∷◌, length, get_or, take, drop, sym, refl, ap, ◌∙◌, subst, mul-le-mul_right, suc-mul, arith, below_more}
+use Rattle.std.proofs.Common.{◌≡◌, ℕ, suc, ◌+◌, ◌-◌, ◌*◌, ◌<◌, ◌≤◌, List, length, get_or, drop, sym, ap, ◌∙◌, mul-le-mul_right, suc-mul, arith, below_more}
 use borrow.Rule.Slice.PartMut.{put_mid}
-use Rattle.std.proofs.lemmas.List.{drop-take, length-take, length-drop}
+use Rattle.std.proofs.lemmas.List.{drop-take}
 use Rattle.std.proofs.lemmas.Slice.{take-put_mid_below, between-put_mid}
-use Rattle.kinds.specs.Time.{Time, Laws}
+use Rattle.kinds.specs.Time.{Time}
 use Rattle.network.specs.declared.Arc.{Arc}
 use Rattle.network.specs.Rounds.{row_of, Level, Levels, Rising}
 

@@ -1,11 +1,10 @@
 -- A round that raises nothing: the table is the least that meets the network.
-use Rattle.std.proofs.Common.{◌≡◌, ℕ, zero, suc, ◌+◌, ◌-◌, ◌*◌, ◌<◌, ◌≤◌, Bool, true, false, ◌≢◌, ◌⊎◌, List, [], ◌∷◌, length, get_or, set, sym, refl, ap, ◌∙◌, subst, inl, inr, arith}
+use Rattle.std.proofs.Common.{◌≡◌, ℕ, zero, suc, ◌+◌, ◌-◌, ◌<◌, ◌≤◌, List, length, get_or, sym, refl, inl, inr, arith}
 use Rattle.kinds.specs.Time.{Time, Laws}
 use Rattle.network.specs.declared.Arc.{Arc}
-use Rattle.network.specs.Network.{UpTo, After, Chain, along, Reaches, Meets}
-use Rattle.network.specs.Reckoning.{at, arc_at, placed}
+use Rattle.network.specs.Reckoning.{at, arc_at}
 use Rattle.network.specs.Rounds.{Round, Source, Sound, Sized, Latest, Settled}
-use Rattle.network.proofs.Order.{upto_refl, after_upto, upto_same}
+use Rattle.network.proofs.Order.{upto_refl}
 use Rattle.network.proofs.Walks.{latest_more}
 
 module _ {K : Type 0} {t : Time K} (laws : Laws t) (floors : List K) (arcs : List (Arc K)) (sound : Sound t (length floors) arcs) (sized : Sized t 110000000 floors) (few : length floors ≤ 1024) where

@@ -1,10 +1,9 @@
 -- Tables that meet a network: they are at or after every walk, they leave no ring, and what walks attain solves the equations.
-use Rattle.std.proofs.Common.{◌≡◌, ℕ, zero, suc, ◌+◌, ◌-◌, ◌*◌, ◌<◌, ◌≤◌, ◌⊎◌, List, [], ◌∷◌, length, sym, refl, ap, ◌∙◌, subst, inl, inr, arith}
+use Rattle.std.proofs.Common.{◌≡◌, ℕ, ◌-◌, ◌<◌, ◌≤◌, ◌⊎◌, List, [], ◌∷◌, length, sym, refl, ap, ◌∙◌, inl, inr, arith}
 use Rattle.std.proofs.lemmas.Bool.{both_ways}
 use Rattle.kinds.specs.Time.{Time, Laws}
-use Rattle.network.specs.declared.Arc.{Arc}
-use Rattle.network.specs.Network.{UpTo, After, Arcs, Network, Chain, along, ends, Ring, Reaches, Table, Meets, LatestWalks, Equation, Least}
-use Rattle.network.proofs.Order.{upto_refl, upto_same}
+use Rattle.network.specs.Network.{UpTo, Network, Chain, along, ends, Ring, Reaches, Table, Meets, LatestWalks, Equation, Least}
+use Rattle.network.proofs.Order.{upto_refl}
 use Rattle.network.proofs.Chains.{Fit, grows, along_join, ends_inside, starts_inside, length_ends}
 use Rattle.network.proofs.Pigeons.{pigeon}
 

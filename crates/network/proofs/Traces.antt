@@ -1,17 +1,16 @@
 -- The last rise, traced back arc by arc until an event comes twice: a ring.
-use Rattle.std.proofs.Common.{◌≡◌, ℕ, zero, suc, ◌+◌, ◌-◌, ◌*◌, ◌<◌, ◌≤◌, Bool, true, false, ◌≢◌, ◌⊎◌, List, [], ◌∷◌, ◌++◌, length, get_or, take, drop, set, sym, refl, ap, ◌∙◌, subst, inl, inr, arith, length-append}
-use Rattle.std.specs.List.{AllByRecursion as All}
-use Rattle.std.proofs.lemmas.Bool.{both_ways, cases_eq}
-use Rattle.std.proofs.lemmas.List.{take_more_set, take-append-drop, take-take, length-take, length-drop, get_or-take, get_or-drop, get_or-set_same, get_or-set_other, drop_more, length-set}
+use Rattle.std.proofs.Common.{◌≡◌, ℕ, zero, suc, ◌+◌, ◌-◌, ◌*◌, ◌<◌, ◌≤◌, List, [], ◌∷◌, ◌++◌, length, get_or, take, drop, set, sym, refl, ap, ◌∙◌, inl, inr, arith, length-append}
+use Rattle.std.proofs.lemmas.Bool.{both_ways}
+use Rattle.std.proofs.lemmas.List.{take_more_set, take-append-drop, take-take, length-take, length-drop, get_or-take, get_or-drop, drop_more}
 use Rattle.kinds.specs.Time.{Time, Laws}
 use Rattle.network.specs.declared.Arc.{Arc}
-use Rattle.network.specs.Network.{UpTo, After, Chain, along, Reaches, Ring, ends, Apart, Lacks}
+use Rattle.network.specs.Network.{UpTo, After, Chain, along, Reaches, Ring, ends}
 use Rattle.network.specs.Reckoning.{at, arc_at, placed, network_of}
-use Rattle.network.specs.Rounds.{Round, Source, Sound, Sized, Latest, Level, Levels, row_of, Rising}
-use Rattle.network.proofs.Order.{upto_refl, after_upto, upto_after, upto_same, is_false}
+use Rattle.network.specs.Rounds.{Source, Sound, Sized, Latest, Level, Levels, row_of, Rising}
+use Rattle.network.proofs.Order.{after_upto, is_false}
 use Rattle.network.proofs.Walks.{fits, latest_size}
 use Rattle.network.proofs.Chains.{Fit, length_ends, along_append, chain_append, chain_split, grows, along_mono, along_join}
-use Rattle.network.proofs.Pigeons.{pigeon, apart_by, lacks_other}
+use Rattle.network.proofs.Pigeons.{apart_by}
 
 pub event_at : {K : Type 0} (t : Time K) (arcs : List (Arc K)) (ks : List ℕ) (j : ℕ) → j < length ks → get_or (ends t (placed t arcs) ks) j 0 ≡ (arc_at t arcs (get_or ks j 0)).to
 event_at t arcs [] j h = absurd (omega arith)

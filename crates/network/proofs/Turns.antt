@@ -1,14 +1,14 @@
 -- One turn of the trace.
-use Rattle.std.proofs.Common.{◌≡◌, ℕ, zero, suc, ◌+◌, ◌-◌, ◌*◌, ◌<◌, ◌≤◌, ◌≢◌, ◌⊎◌, List, [], ◌∷◌, ◌++◌, length, get_or, take, drop, set, replicate, sym, refl, ap, ◌∙◌, subst, inl, inr, arith}
+use Rattle.std.proofs.Common.{◌≡◌, ℕ, ◌+◌, ◌-◌, ◌*◌, ◌<◌, ◌≤◌, List, length, get_or, take, drop, set, sym, ◌∙◌, inl, inr, arith}
 use Rattle.std.proofs.lemmas.Nat.{mul-add-lt}
-use Rattle.std.proofs.lemmas.List.{get_or-take, get_or-drop, get_or_default, get_or_read}
+use Rattle.std.proofs.lemmas.List.{get_or-take, get_or-drop, get_or_default}
 use Rattle.kinds.specs.Time.{Time, Laws}
 use Rattle.network.specs.declared.Arc.{Arc}
 use Rattle.network.specs.Network.{Ring}
 use Rattle.network.specs.Reckoning.{arc_at, placed}
-use Rattle.network.specs.Rounds.{Sound, Sized, Rising, Levels, row_of}
-use Rattle.network.proofs.Traces.{Traced, traced_none, traced_more, traced_arc, traced_end, ring_is}
-use Rattle.network.proofs.Marks.{Mark, Marks, marks_none, marks_more, room}
+use Rattle.network.specs.Rounds.{Sound, Sized, Levels, row_of}
+use Rattle.network.proofs.Traces.{Traced, traced_more, traced_arc, traced_end, ring_is}
+use Rattle.network.proofs.Marks.{Mark, Marks, marks_more, room}
 
 row_read : (n : ℕ) (rows : List ℕ) (k u : ℕ) → u < n → get_or rows (k * n + u) 0 ≡ get_or (row_of n rows k) u 0
 row_read n rows k u h = sym (get_or-take n (drop (k * n) rows) u 0 h ∙ get_or-drop (k * n) rows u 0)

@@ -1,12 +1,12 @@
 -- What a round does to the latest values along walks.
-use Rattle.std.proofs.Common.{◌≡◌, ℕ, suc, ◌+◌, ◌*◌, ◌<◌, ◌≤◌, Bool, true, false, ◌≢◌, ◌⊎◌, List, [], ◌∷◌, length, get_or, set, sym, refl, ap, ◌∙◌, subst, inl, inr, arith}
+use Rattle.std.proofs.Common.{◌≡◌, ℕ, suc, ◌+◌, ◌*◌, ◌<◌, ◌≤◌, List, [], ◌∷◌, length, sym, refl, ap, ◌∙◌, inl, inr, arith}
 use Rattle.kinds.specs.Time.{Time, Laws}
 use Rattle.network.specs.declared.Arc.{Arc}
-use Rattle.network.specs.Network.{UpTo, After, Chain, along, Reaches}
+use Rattle.network.specs.Network.{UpTo, Chain, along, Reaches}
 use Rattle.network.specs.Reckoning.{at, arc_at, placed, network_of}
 use Rattle.network.specs.Rounds.{Round, Source, Sound, Sized, Latest}
 use Rattle.network.proofs.Chains.{Fit, grows}
-use Rattle.network.proofs.Order.{upto_refl, after_upto, upto_same}
+use Rattle.network.proofs.Order.{upto_same}
 
 module _ {K : Type 0} {t : Time K} (laws : Laws t) (floors : List K) (arcs : List (Arc K)) (sound : Sound t (length floors) arcs) (sized : Sized t 110000000 floors) where
   pub fits : Fit t (length floors) (placed t arcs)

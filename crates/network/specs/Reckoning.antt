@@ -1,12 +1,11 @@
 -- What reckon is handed, its refusals, and what each memory holds when it returns. Assumes nothing.
-use Rattle.std.specs.Prelude.{◌≡◌, ℕ, ◌-◌, ◌<◌, ◌≤◌, cond, ◌⊎◌, List, [], ◌∷◌, ◌++◌, length, take, drop, Ok, Err, Result, ◌≢◌, nat_lt, slice_index_or}
+use Rattle.std.specs.Prelude.{◌≡◌, ℕ, ◌<◌, ◌≤◌, cond, ◌⊎◌, List, [], ◌∷◌, ◌++◌, length, take, drop, Ok, Err, Result, ◌≢◌, nat_lt, slice_index_or}
 use Rattle.kinds.specs.Time.{Time}
 use Rattle.network.specs.declared.Arc.{Arc}
 use Rattle.network.specs.declared.faults.NetworkFault.{NetworkFault}
 use Rattle.network.specs.declared.faults.NetworkFault.TheVariants as fault
 use Rattle.network.specs.Network.{Arcs, Network, Least, NoTable, HasRing, Names}
-use Rattle.network.specs.Refusals.{Row, row, Passed, Answers}
-use Rattle.network.specs.Faults.{network_number, network_place}
+use Rattle.network.specs.Refusals.{Row, row, Passed}
 
 -- one of the elements has the property
 abbrev pub SomeOf : {X : Type 0} → (X → Type 0) → List X → Type 0

@@ -4,7 +4,7 @@ use Rattle.std.specs.Prelude.{◌≡◌, ℕ, ◌+◌, ◌-◌, ◌*◌, ◌<◌
 use Rattle.std.specs.List.{AllByRecursion as All}
 use Rattle.kinds.specs.Time.{Time}
 use Rattle.network.specs.declared.Arc.{Arc}
-use Rattle.network.specs.Network.{UpTo, After, Network, LatestWalks, ends, Least, HasRing, Names, NoTable}
+use Rattle.network.specs.Network.{UpTo, After, LatestWalks, ends, Least, HasRing, Names, NoTable}
 use Rattle.network.specs.Reckoning.{at, arc_at, placed, network_of}
 
 -- row j of a memory of rows of n places

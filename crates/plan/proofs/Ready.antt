@@ -1,5 +1,5 @@
 -- What is known once no row before the ring applies.
-use Rattle.std.proofs.Common.{◌≡◌, ℕ, ◌+◌, ◌*◌, ◌/◌, ◌%◌, ◌<◌, ◌≤◌, Bool, true, false, ◌⊎◌, List, length, get_or, take, set, IfSome, IfOk, Some, None, Ok, Err, Option, Result, sym, refl, ap, ◌∙◌, subst, inl, inr, arith, MatchOption}
+use Rattle.std.proofs.Common.{◌≡◌, ℕ, ◌*◌, ◌/◌, ◌%◌, ◌<◌, ◌≤◌, true, false, List, length, take, set, IfSome, IfOk, Some, None, Ok, Err, Option, Result, refl, subst, inl, inr, arith, MatchOption}
 use Rattle.std.proofs.lemmas.Bool.{cases_lt, cases_Bool}
 use Rattle.std.proofs.lemmas.List.{get_or-take, length-take-le}
 use Rattle.kinds.specs.Time.{Time}
@@ -7,7 +7,7 @@ use Rattle.network.specs.Refusals.{Answers, Passed}
 use Rattle.records.specs.declared.Run.{Run}
 use Rattle.records.specs.Records.{run_at}
 use Rattle.records.specs.Register.{Memory, register_of}
-use Rattle.records.specs.Stored.{Stored, RunStored, SizedIfAny}
+use Rattle.records.specs.Stored.{RunStored}
 use Rattle.rules.specs.declared.faults.PlanFault.{PlanFault}
 use Rattle.rules.specs.Faults.{plan_number, plan_place}
 use Rattle.rules.specs.Rows.{SoundOpen, Over, Untimely, Given, report_rows, hold_rows, release_rows, turning_rows, setting_place}

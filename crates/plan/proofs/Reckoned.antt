@@ -1,10 +1,10 @@
 -- From the answer of a reckoning to that of the call.
-use Rattle.std.proofs.Common.{◌≡◌, ℕ, ◌*◌, ◌<◌, ◌≤◌, List, [], ◌∷◌, ◌++◌, length, Ok, Err, Result, refl, inl, inr, arith}
+use Rattle.std.proofs.Common.{ℕ, List, Ok, Err, Result, refl, inl, arith}
 use Rattle.kinds.specs.Time.{Time}
 use Rattle.network.specs.declared.faults.NetworkFault.{NetworkFault}
 use Rattle.network.specs.declared.faults.NetworkFault.TheVariants as network
 use Rattle.network.specs.Reckoning.{at}
-use Rattle.network.specs.Refusals.{Row, row, Passed, First, Answers}
+use Rattle.network.specs.Refusals.{Row, Passed, First}
 use Rattle.network.proofs.Refusals.{passed_more, first_more, first_front, Under, first_under}
 use Rattle.records.specs.Register.{Register}
 use Rattle.force.specs.Reckoned.{TimesAfter, RingAfter}

@@ -1,5 +1,5 @@
 -- What is stored stays within its rules when one run or one setting changes.
-use Rattle.std.proofs.Common.{◌≡◌, ℕ, ◌+◌, ◌*◌, ◌/◌, ◌%◌, ◌<◌, ◌≤◌, Bool, true, false, cond, eqb, ◌⊎◌, List, length, get_or, take, set, IfSome, Some, None, Option, sym, refl, ap, ◌∙◌, subst, inl, inr, arith, MatchOption}
+use Rattle.std.proofs.Common.{◌≡◌, ℕ, ◌+◌, ◌<◌, ◌≤◌, true, List, length, get_or, take, set, IfSome, None, Option, sym, ap, ◌∙◌, subst, inl, inr, arith, MatchOption}
 use lib.Seq.{set_out}
 use Rattle.std.proofs.lemmas.Bool.{cases_eq, cases_lt}
 use Rattle.std.proofs.lemmas.List.{get_or-set_same, get_or-set_other, get_or-take, length-take-le, length-set}
@@ -7,8 +7,8 @@ use Rattle.kinds.specs.Time.{Time}
 use Rattle.records.specs.declared.Run.{Run}
 use Rattle.records.specs.Records.{run_at, track_of_lem}
 use Rattle.records.specs.Places.{total, place, Ordered}
-use Rattle.records.specs.Register.{Register, Memory, register_of}
-use Rattle.records.specs.Stored.{Stored, Limits, ConnectionsStored, RunStored, Sized, SizedIfAny, Reported}
+use Rattle.records.specs.Register.{Memory}
+use Rattle.records.specs.Stored.{Stored, ConnectionsStored, RunStored, SizedIfAny}
 use Rattle.records.proofs.Counts.{total_kept, place_kept}
 use Rattle.plan.specs.Steps.{with_runs, with_settings, reported, holding}
 

@@ -1,7 +1,6 @@
 -- What a call that reckons answers, and what it leaves in the memories of times and of the ring. Assumes nothing.
 use Rattle.std.specs.Prelude.{◌≡◌, ℕ, ◌*◌, ◌≤◌, List, [], ◌∷◌, ◌++◌, length, take, drop, Ok, Err, Result}
 use Rattle.kinds.specs.Time.{Time}
-use Rattle.network.specs.declared.faults.NetworkFault.{NetworkFault}
 use Rattle.network.specs.declared.faults.NetworkFault.TheVariants as network
 use Rattle.network.specs.Network.{Least, Names, NoTable}
 use Rattle.network.specs.Reckoning.{at}

@@ -1,9 +1,7 @@
 -- What a taken call writes: the memory after it. Assumes nothing.
-use Rattle.std.specs.Prelude.{ℕ, ◌+◌, ◌/◌, ◌%◌, cond, List, ◌++◌, replicate, Some, None, Option, ◌==◌, slice_set}
+use Rattle.std.specs.Prelude.{ℕ, ◌/◌, ◌%◌, cond, List, Some, None, Option, ◌==◌, slice_set}
 use Rattle.kinds.specs.Time.{Time}
-use Rattle.records.specs.declared.Track.{Track}
 use Rattle.records.specs.declared.Run.{Run}
-use Rattle.records.specs.declared.Connection.{Connection}
 use Rattle.records.specs.Records.{run_at}
 use Rattle.records.specs.Register.{Memory, register_of}
 use Rattle.rules.specs.declared.switches.Switch.{Switch}

@@ -1,11 +1,10 @@
 -- Registers and the bytes of their settings.
-use Rattle.std.proofs.Common.{◌≡◌, ℕ, ◌+◌, ◌<◌, ◌≤◌, length, get_or, take, sym, refl, ap, ◌∙◌, subst, arith}
-use Rattle.std.proofs.lemmas.List.{length-take-le, take_all}
+use Rattle.std.proofs.Common.{◌≡◌, ℕ, ◌+◌, ◌≤◌, length, get_or, subst, arith}
 use Rattle.kinds.specs.Time.{Time}
 use Rattle.records.specs.Records.{track_of_lem}
-use Rattle.records.specs.Places.{total, place, Ordered}
-use Rattle.records.specs.Register.{Register, Memory, all_of, front, register_of}
-use Rattle.records.specs.Stored.{FlagsStored, TracksStored, RunsStored, ConnectionsStored, Limits, Stored}
+use Rattle.records.specs.Places.{total, place}
+use Rattle.records.specs.Register.{Memory, all_of}
+use Rattle.records.specs.Stored.{FlagsStored, TracksStored, RunsStored, ConnectionsStored, Limits}
 use Rattle.records.proofs.Counts.{place_below, place_at}
 
 module _ {K : Type 0} (t : Time K) where

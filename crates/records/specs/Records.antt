@@ -1,5 +1,5 @@
 -- The record at a place of a list of records. Past the end it is a blank one, of which no promise speaks. Assumes nothing.
-use Rattle.std.specs.Prelude.{ℕ, ◌<◌, List, length, get_or, Some, None, Option, slice_index_or}
+use Rattle.std.specs.Prelude.{ℕ, ◌<◌, List, length, get_or, None, slice_index_or}
 use Rattle.kinds.specs.Time.{Time}
 use Rattle.records.specs.declared.Run.{Run}
 use Rattle.records.specs.declared.Track.{Track}

@@ -1,5 +1,5 @@
 -- What must hold of stored records. Assumes nothing.
-use Rattle.std.specs.Prelude.{◌≡◌, ℕ, ◌+◌, ◌<◌, ◌≤◌, true, List, length, IfSome, Some, None, Option, MatchOption, ◌≢◌, slice_index, slice_index_or}
+use Rattle.std.specs.Prelude.{◌≡◌, ℕ, ◌+◌, ◌<◌, ◌≤◌, true, List, length, IfSome, None, Option, MatchOption, ◌≢◌, slice_index, slice_index_or}
 use Rattle.kinds.specs.Time.{Time}
 use Rattle.records.specs.declared.Run.{Run}
 use Rattle.records.specs.declared.Track.{Track}

@@ -1,4 +1,4 @@
-use Rattle.std.proofs.Common.{◌≡◌, ℕ, min, List, length, take, Ok, Err, sym, ap, ◌∙◌, subst}
+use Rattle.std.proofs.Common.{◌≡◌, List, length, take, ap, ◌∙◌, subst}
 use Rattle.network.specs.declared.Arc.{Arc}
 use Rattle.network.specs.Refusals.{Answers}
 use Rattle.network.specs.Faults.{network_number, network_place}

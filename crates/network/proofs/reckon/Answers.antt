@@ -1,16 +1,13 @@
-use Rattle.std.proofs.Common.{◌≡◌, ℕ, ◌+◌, ◌-◌, ◌*◌, ◌<◌, ◌≤◌, List, [], ◌∷◌, ◌++◌, length, get_or, take, drop, sym, refl, ap, ◌∙◌, subst, inl, inr, mul-le-mul, arith}
+use Rattle.std.proofs.Common.{◌≡◌, ℕ, ◌-◌, ◌*◌, ◌≤◌, List, length, take, sym, refl, ap, ◌∙◌, subst, inl, mul-le-mul, arith}
 use Rattle.std.proofs.lemmas.List.{length-take-le}
 use Rattle.std.proofs.lemmas.Slice.{take-put_mid, drop-put_mid}
 use Rattle.std.proofs.lemmas.Result.{err_from_is_err_and}
 use Rattle.network.specs.declared.Arc.{Arc}
 use Rattle.network.specs.Network.{Least, Names, NoTable, HasRing}
-use Rattle.network.specs.Refusals.{row, Passed}
-use Rattle.network.specs.Reckoning.{at, placed, network_of, Handed, handed, first_rows, ring_rows}
+use Rattle.network.specs.Reckoning.{at, placed, network_of, handed, first_rows, ring_rows}
 use Rattle.network.specs.Rounds.{Sound, Sized}
 use Rattle.network.proofs.Refusals.{first_front, first_not_passed, passed_more, first_more}
-use Rattle.network.proofs.Checks.{Checked, checked, not_ring}
-use Rattle.network.proofs.Solved.{ring_no_table}
-use Rattle.network.proofs.reckon.Given as given
+use Rattle.network.proofs.Checks.{checked, not_ring}
 use Rattle.network.proofs.reckon.Goals as goal
 
 pub returns-in_err-check : goal.returns-in_err-check

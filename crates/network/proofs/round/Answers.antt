@@ -1,7 +1,6 @@
-use Rattle.std.proofs.Common.{◌≡◌, ℕ, ◌+◌, ◌<◌, ◌≤◌, length, get_or, sym, refl, ap, ◌∙◌, subst, arith, rules}
+use Rattle.std.proofs.Common.{◌≡◌, ◌<◌, length, ap, arith, rules}
 use Rattle.std.proofs.lemmas.List.{get_or_read}
-use Rattle.network.specs.declared.Arc.{Arc}
-use Rattle.network.specs.Reckoning.{at, arc_at}
+use Rattle.network.specs.Reckoning.{arc_at}
 use Rattle.network.proofs.Rounds.{arc_is, arc_starts, arc_ends, arc_fits, brings, none_not, round_keeps, round_takes}
 use Rattle.network.proofs.round.Goals as goal
 use Rattle.network.proofs.round.Goals.{then-not-compare, else-not-compare, In-Some}

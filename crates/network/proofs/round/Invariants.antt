@@ -1,4 +1,3 @@
-use Rattle.std.proofs.Common.{◌≡◌, ◌≤◌, length}
 use Rattle.network.specs.Rounds.{Round}
 use Rattle.network.proofs.round.Given as goal
 

@@ -1,7 +1,7 @@
-use Rattle.std.proofs.Common.{◌≡◌, ℕ, ◌+◌, ◌-◌, ◌*◌, ◌<◌, ◌≤◌, length, get_or, take, drop, sym, refl, ap, ◌∙◌, subst, arith, rules}
+use Rattle.std.proofs.Common.{◌≡◌, ◌+◌, ◌-◌, ◌*◌, length, take, drop, sym, ◌∙◌, arith}
 use Rattle.std.proofs.lemmas.List.{length-take, length-drop}
-use Rattle.network.specs.Rounds.{Latest, Level, Levels}
-use Rattle.network.proofs.Rows.{row_ends, row_here, levels_more, rising}
+use Rattle.network.specs.Rounds.{Level}
+use Rattle.network.proofs.Rows.{row_ends, levels_more, rising}
 use Rattle.network.proofs.Settles.{settles}
 use Rattle.network.proofs.Walks.{latest_none, latest_more, latest_sized}
 use Rattle.network.proofs.settle.Goals as goal

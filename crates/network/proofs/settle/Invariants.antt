@@ -1,4 +1,4 @@
-use Rattle.std.proofs.Common.{◌≡◌, ℕ, ◌<◌, length}
+use Rattle.std.proofs.Common.{◌<◌, length}
 use Rattle.network.specs.Rounds.{Latest, Levels}
 use Rattle.network.proofs.settle.Given as goal
 

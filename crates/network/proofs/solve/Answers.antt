@@ -1,10 +1,9 @@
-use Rattle.std.proofs.Common.{◌≡◌, ℕ, ◌+◌, ◌-◌, ◌<◌, ◌≤◌, List, length, get_or, take, drop, sym, refl, subst, arith}
+use Rattle.std.proofs.Common.{◌≡◌, ℕ, ◌-◌, List, length, take, drop, refl, subst, arith}
 use Rattle.network.specs.Network.{Ring, Names}
 use Rattle.network.specs.Reckoning.{placed}
 use Rattle.network.proofs.Chains.{chain_known}
 use Rattle.network.proofs.Foremosts.{named, part_is, part_long}
 use Rattle.network.proofs.Solved.{settled_least, settled_no_ring, ring_no_table}
-use Rattle.network.proofs.solve.Given as given
 use Rattle.network.proofs.solve.Goals as goal
 
 pub returns-in-None : goal.returns-in-None

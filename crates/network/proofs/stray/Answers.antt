@@ -1,9 +1,8 @@
-use Rattle.std.proofs.Common.{◌≡◌, ℕ, ◌<◌, ◌≤◌, sym, refl, ap, ◌∙◌, inl, inr, arith, below_more}
+use Rattle.std.proofs.Common.{◌≡◌, ◌<◌, ◌≤◌, sym, ap, ◌∙◌, inl, inr, arith, below_more}
 use Rattle.std.proofs.lemmas.List.{get_or_read}
 use Rattle.network.specs.declared.Arc.{Arc}
 use Rattle.network.specs.Reckoning.{arc_at, Stray}
 use Rattle.network.proofs.Strays.{some_at, some_none, stray_from, stray_to}
-use Rattle.network.proofs.stray.Given as given
 use Rattle.network.proofs.stray.Goals as goal
 
 pub returns-then-arc-events : goal.returns-then-arc-events

@@ -1,4 +1,4 @@
-use Rattle.std.proofs.Common.{◌≡◌, ℕ, ◌+◌, ◌-◌, ◌*◌, ◌<◌, ◌≤◌, length, get_or, take, drop, replicate, sym, refl, ap, ◌∙◌, subst, arith, rules}
+use Rattle.std.proofs.Common.{◌≡◌, length, replicate, ap, ◌∙◌, arith, rules}
 use Rattle.network.proofs.Traces.{traced_none}
 use Rattle.network.proofs.Marks.{marks_none}
 use Rattle.network.proofs.Turns.{Turn, turn_room, turn_row, turn_arc, turn_traced, turn_marks, turn_ends}

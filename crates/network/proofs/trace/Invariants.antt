@@ -1,4 +1,4 @@
-use Rattle.std.proofs.Common.{◌≡◌, ℕ, ◌-◌, ◌<◌, ◌≤◌, length}
+use Rattle.std.proofs.Common.{◌-◌, ◌≤◌, length}
 use Rattle.network.proofs.Traces.{Traced}
 use Rattle.network.proofs.Marks.{Marks}
 use Rattle.network.proofs.trace.Given as goal

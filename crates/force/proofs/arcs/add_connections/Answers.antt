@@ -1,6 +1,6 @@
-use Rattle.std.proofs.Common.{◌≡◌, ℕ, ◌+◌, ◌*◌, ◌<◌, ◌≤◌, length, sym, ap, subst, arith}
+use Rattle.std.proofs.Common.{◌≡◌, ℕ, length, ap, subst, arith}
 use Rattle.records.specs.Register.{seen, all_of}
-use Rattle.force.specs.Added.{Added, Among, ConnectionOf, ConnectionArcs}
+use Rattle.force.specs.Added.{Added, ConnectionOf, ConnectionArcs}
 use Rattle.force.proofs.Adds.{added_start, added_more}
 use Rattle.force.proofs.Parts.{connection_is}
 use Rattle.force.proofs.arcs.add_connections.Goals as goal

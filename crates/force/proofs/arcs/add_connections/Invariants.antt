@@ -1,6 +1,6 @@
-use Rattle.std.proofs.Common.{◌+◌, ◌*◌, ◌≤◌}
+use Rattle.std.proofs.Common.{◌+◌, ◌≤◌}
 use Rattle.records.specs.Register.{seen, all_of}
-use Rattle.force.specs.Added.{Added, Among, ConnectionOf, ConnectionArcs}
+use Rattle.force.specs.Added.{Added, ConnectionArcs}
 use Rattle.force.proofs.arcs.add_connections.Given as goal
 
 abbrev pub invariant-loop-i : goal.invariant-loop-i

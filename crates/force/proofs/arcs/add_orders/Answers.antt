@@ -1,4 +1,4 @@
-use Rattle.std.proofs.Common.{◌≡◌, ℕ, ◌+◌, ◌*◌, ◌<◌, ◌≤◌, length, sym, ap, subst, arith}
+use Rattle.std.proofs.Common.{◌≡◌, ℕ, ◌+◌, length, ap, subst, arith}
 use Rattle.records.specs.Places.{total}
 use Rattle.records.proofs.Counts.{total_more, total_mono}
 use Rattle.records.specs.Register.{seen, all_of}

@@ -1,9 +1,9 @@
-use Rattle.std.proofs.Common.{◌≡◌, ℕ, ◌+◌, ◌-◌, ◌*◌, ◌<◌, ◌≤◌, length, get_or, sym, ap, ◌∙◌, subst, arith}
-use Rattle.records.specs.Places.{total, place, earlier, count, Previous, Ordered}
-use Rattle.records.proofs.Counts.{place_below, previous_of, count_back, count_still, laid_place}
+use Rattle.std.proofs.Common.{◌≡◌, ℕ, ◌+◌, ◌-◌, ◌<◌, ◌≤◌, length, get_or, sym, ap, subst, arith}
+use Rattle.records.specs.Places.{place}
+use Rattle.records.proofs.Counts.{previous_of, count_back, count_still, laid_place}
 use Rattle.records.specs.Register.{seen, all_of}
 use Rattle.force.specs.Added.{Added, Among, OrderOf}
-use Rattle.force.specs.Force.{track_in, run_in}
+use Rattle.force.specs.Force.{track_in}
 use Rattle.force.proofs.Adds.{added_none, added_back}
 use Rattle.force.proofs.Parts.{order_is}
 use Rattle.force.proofs.arcs.add_orders_of.Goals as goal

@@ -1,4 +1,4 @@
-use Rattle.std.proofs.Common.{◌≡◌, ℕ, ◌+◌, ◌*◌, ◌<◌, ◌≤◌, length, IfSome, sym, ap, subst, arith}
+use Rattle.std.proofs.Common.{◌≡◌, ℕ, ◌<◌, length, IfSome, sym, subst, arith}
 use Rattle.records.specs.declared.Run.{Run}
 use Rattle.records.specs.Register.{seen, all_of}
 use Rattle.force.specs.Added.{Added, OfRun, RunArcs}

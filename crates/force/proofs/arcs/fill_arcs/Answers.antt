@@ -1,5 +1,5 @@
-use Rattle.std.proofs.Common.{◌≡◌, ℕ, ◌≤◌, List, length, sym, ap, ◌∙◌, subst, arith}
-use Rattle.records.specs.Register.{Memory, seen, all_of}
+use Rattle.std.proofs.Common.{length, sym, ap, subst, arith}
+use Rattle.records.specs.Register.{Memory, all_of}
 use Rattle.records.specs.Stored.{Limits}
 use Rattle.force.specs.Force.{InForce}
 use Rattle.force.specs.Added.{Listed}

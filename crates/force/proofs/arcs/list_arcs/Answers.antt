@@ -1,4 +1,4 @@
-use Rattle.std.proofs.Common.{ℕ, ◌+◌, ◌*◌, ◌<◌, ◌≤◌, arith}
+use Rattle.std.proofs.Common.{arith}
 use Rattle.records.specs.Register.{seen, all_of}
 use Rattle.force.proofs.Whole.{whole}
 use Rattle.force.proofs.arcs.list_arcs.Goals as goal

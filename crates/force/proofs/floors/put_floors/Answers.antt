@@ -1,4 +1,4 @@
-use Rattle.std.proofs.Common.{◌≡◌, ℕ, ◌+◌, ◌*◌, ◌<◌, ◌≤◌, length, sym, ap, ◌∙◌, subst, arith}
+use Rattle.std.proofs.Common.{◌≡◌, ℕ, length, ap, ◌∙◌, subst, arith}
 use Rattle.records.specs.Register.{seen, all_of}
 use Rattle.force.specs.Floors.{departure_floor_lem, arrival_floor_lem}
 use Rattle.force.specs.Added.{FloorsOf}

@@ -1,13 +1,11 @@
-use Rattle.std.proofs.Common.{◌≡◌, ℕ, List, ◌++◌, length, sym, refl, ap, ◌∙◌, subst}
+use Rattle.std.proofs.Common.{ℕ, List, sym, refl, subst}
 use Rattle.network.specs.Refusals.{Row}
-use Rattle.records.specs.declared.Run.{Run}
 use Rattle.records.specs.Register.{Register, register_of}
 use Rattle.rules.specs.declared.switches.Switch.TheVariants as switch
 use Rattle.rules.specs.Rows.{turning_rows}
 use Rattle.plan.specs.States.{open_memory}
-use Rattle.plan.specs.Steps.{report_memory, switch_memory}
-use Rattle.plan.specs.Calls.{lengths}
-use Rattle.registers.specs.Steps.{report, set_switch}
+use Rattle.plan.specs.Steps.{switch_memory}
+use Rattle.registers.specs.Steps.{set_switch}
 use Rattle.registers.proofs.Rows.{turning_match}
 use Rattle.registers.proofs.Stays.{limits_kept_lem}
 use Rattle.journal.specs.declared.calls.Call.TheVariants as call

@@ -1,6 +1,4 @@
-use Rattle.std.proofs.Common.{◌≡◌, ℕ, ◌<◌, ◌≤◌, List, ◌++◌, length, get_or, take, set, Some, None, Option, sym, refl, ap, ◌∙◌, subst, inl, inr, arith, length-set, set-set}
-use lib.Seq.{set-get_or}
-use Rattle.std.proofs.lemmas.List.{length-take, get_or-set_same}
+use Rattle.std.proofs.Common.{List, ◌++◌, length, get_or, Some, None, Option, sym, refl, ◌∙◌, subst, inl, inr, arith}
 use Rattle.records.specs.declared.Run.{Run}
 use Rattle.records.specs.Register.{register_of}
 use Rattle.rules.specs.Rows.{hold_rows}
@@ -14,7 +12,7 @@ use Rattle.journal.specs.declared.calls.Plan.TheVariants as stage
 use Rattle.journal.specs.declared.calls.Call.TheVariants as call
 use Rattle.journal.specs.Books.{taken}
 use Rattle.journal.specs.Promise.{state, Stands}
-use Rattle.journal.proofs.Holds.{some_of, none_of, kept_inside, hold_step, hold_refused, hold_again, release_step, release_refused, release_misused}
+use Rattle.journal.proofs.Holds.{some_of, none_of, kept_inside, hold_step, hold_refused, hold_again}
 use Rattle.journal.proofs.control.open_hold.Goals as goal
 
 pub returns-then-size-gt-TIME_SIZE : goal.returns-then-size-gt-TIME_SIZE

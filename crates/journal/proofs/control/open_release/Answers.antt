@@ -1,20 +1,14 @@
-use Rattle.std.proofs.Common.{◌≡◌, ℕ, ◌<◌, ◌≤◌, List, ◌++◌, length, get_or, take, set, Some, None, Option, sym, refl, ap, ◌∙◌, subst, inl, inr, arith, length-set, set-set}
+use Rattle.std.proofs.Common.{◌≡◌, List, length, get_or, set, Some, None, Option, sym, ap, ◌∙◌, subst, arith, length-set, set-set}
 use lib.Seq.{set-get_or}
-use Rattle.std.proofs.lemmas.List.{length-take, get_or-set_same}
+use Rattle.std.proofs.lemmas.List.{get_or-set_same}
 use Rattle.records.specs.declared.Run.{Run}
-use Rattle.records.specs.Register.{register_of}
-use Rattle.rules.specs.Rows.{hold_rows}
-use Rattle.rules.proofs.Rows.{passed_front, passed_back, hold_passed}
 use Rattle.plan.specs.declared.states.Slip.{Slip}
-use Rattle.plan.specs.States.{open_memory}
-use Rattle.plan.specs.Steps.{hold_memory}
-use Rattle.plan.specs.Calls.{lengths, open_call_rows, ring_rows}
 use Rattle.registers.proofs.Stays.{limits_kept_lem}
 use Rattle.journal.specs.declared.calls.Plan.TheVariants as stage
 use Rattle.journal.specs.declared.calls.Call.TheVariants as call
 use Rattle.journal.specs.Books.{taken}
 use Rattle.journal.specs.Promise.{state, Stands}
-use Rattle.journal.proofs.Holds.{some_of, none_of, kept_inside, hold_step, hold_refused, hold_again, release_step, release_refused, release_misused, slot_inside, emptied}
+use Rattle.journal.proofs.Holds.{release_step, release_refused, release_misused, slot_inside, emptied}
 use Rattle.journal.proofs.control.open_release.Goals as goal
 
 pub put_slip-requires : goal.put_slip-requires

@@ -1,19 +1,17 @@
-use Rattle.std.proofs.Common.{◌≡◌, ℕ, List, ◌++◌, length, sym, refl, ap, ◌∙◌, subst}
+use Rattle.std.proofs.Common.{List, sym, refl, subst}
 use Rattle.network.specs.Refusals.{Row}
 use Rattle.records.specs.declared.Run.{Run}
 use Rattle.records.specs.Register.{Register, register_of}
-use Rattle.rules.specs.declared.switches.Switch.TheVariants as switch
-use Rattle.rules.specs.Rows.{report_rows, turning_rows}
+use Rattle.rules.specs.Rows.{report_rows}
 use Rattle.plan.specs.States.{open_memory}
-use Rattle.plan.specs.Steps.{report_memory, switch_memory}
-use Rattle.plan.specs.Calls.{lengths}
-use Rattle.registers.specs.Steps.{report, set_switch}
-use Rattle.registers.proofs.Rows.{report_match, turning_match}
+use Rattle.plan.specs.Steps.{report_memory}
+use Rattle.registers.specs.Steps.{report}
+use Rattle.registers.proofs.Rows.{report_match}
 use Rattle.registers.proofs.Stays.{limits_kept_lem}
 use Rattle.journal.specs.declared.calls.Call.TheVariants as call
 use Rattle.journal.specs.declared.calls.Plan.TheVariants as stage
 use Rattle.journal.specs.Promise.{state, Stands}
-use Rattle.journal.proofs.Controls.{report_step, turn_step, trial_step, control_refused, reported_same}
+use Rattle.journal.proofs.Controls.{report_step, control_refused, reported_same}
 use Rattle.journal.proofs.Rules.{report_under}
 use Rattle.journal.proofs.control.open_report.Goals as goal
 

@@ -1,11 +1,3 @@
-use Rattle.std.proofs.Common.{◌≡◌, ℕ, List, [], length, sym, refl, ap, ◌∙◌, subst}
-use Rattle.network.specs.Refusals.{Row}
-use Rattle.records.specs.Register.{Register, register_of}
-use Rattle.rules.specs.Rows.{open_rows, event_rows, switch_rows}
-use Rattle.plan.specs.States.{open_memory, draft_memory}
-use Rattle.registers.proofs.Rows.{rows_shared}
-use Rattle.registers.proofs.Matches.{first_behind}
-use Rattle.journal.specs.declared.calls.Call.TheVariants as call
 use Rattle.journal.proofs.Questions.{setting_answered, setting_refused}
 use Rattle.journal.proofs.control.open_setting.Goals as goal
 

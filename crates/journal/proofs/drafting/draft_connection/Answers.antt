@@ -1,7 +1,5 @@
-use Rattle.std.proofs.Common.{◌≡◌, ℕ, List, sym, refl, ap, ◌∙◌, subst, arith}
+use Rattle.std.proofs.Common.{ℕ, List, sym, refl, subst}
 use Rattle.network.specs.Refusals.{Row}
-use Rattle.records.specs.declared.Track.{Track}
-use Rattle.records.specs.declared.Run.{Run}
 use Rattle.records.specs.declared.Connection.{Connection}
 use Rattle.records.specs.Register.{Register, register_of}
 use Rattle.rules.specs.Rows.{connection_rows}

@@ -1,12 +1,3 @@
-use Rattle.std.proofs.Common.{◌≡◌, true, false, List, [], length, Option, sym, refl, ap, ◌∙◌, subst}
-use Rattle.plan.specs.declared.states.Slip.{Slip}
-use Rattle.plan.specs.declared.states.Draft.{Draft}
-use Rattle.plan.specs.declared.states.Open.{Open}
-use Rattle.plan.specs.States.{draft_memory}
-use Rattle.plan.specs.Calls.{lengths, opening_rows}
-use Rattle.records.specs.Register.{register_of}
-use Rattle.journal.specs.declared.calls.Plan.TheVariants as stage
-use Rattle.journal.specs.Promise.{state, Stands}
 use Rattle.journal.proofs.Openings.{open_taken, open_refused}
 use Rattle.journal.proofs.drafting.draft_open.Goals as goal
 

@@ -1,11 +1,7 @@
-use Rattle.std.proofs.Common.{◌≡◌, ℕ, List, sym, refl, ap, ◌∙◌, subst, arith}
+use Rattle.std.proofs.Common.{ℕ, List, sym, refl, subst}
 use Rattle.network.specs.Refusals.{Row}
-use Rattle.records.specs.declared.Track.{Track}
-use Rattle.records.specs.declared.Run.{Run}
-use Rattle.records.specs.declared.Connection.{Connection}
 use Rattle.records.specs.Register.{Register, register_of}
 use Rattle.rules.specs.Rows.{setting_rows}
-use Rattle.plan.specs.declared.states.Draft.{Draft}
 use Rattle.plan.specs.States.{draft_memory}
 use Rattle.registers.proofs.Rows.{rows_shared}
 use Rattle.registers.proofs.Stays.{limits_kept_lem}

@@ -1,4 +1,4 @@
-use Rattle.std.proofs.Common.{◌≡◌, sym, refl, ap, ◌∙◌, inr}
+use Rattle.std.proofs.Common.{ap, ◌∙◌, inr}
 use Rattle.rules.specs.Rows.{draft_rows, switch_rows}
 use Rattle.rules.proofs.Rows.{passed_back}
 use Rattle.records.specs.Register.{register_of}

@@ -1,11 +1,10 @@
-use Rattle.std.proofs.Common.{◌≡◌, ℕ, ◌<◌, ◌≤◌, List, length, get_or, take, sym, refl, ap, ◌∙◌, subst, arith}
+use Rattle.std.proofs.Common.{◌≡◌, ◌<◌, List, length, get_or, take, sym, refl, ◌∙◌, subst, arith}
 use Rattle.std.proofs.lemmas.List.{take_all}
 use Rattle.plan.specs.Calls.{lengths}
-use Rattle.plan.specs.Drafting.{blank}
 use Rattle.journal.specs.declared.calls.Line.{Line}
 use Rattle.journal.specs.declared.calls.Plan.{Plan}
 use Rattle.journal.specs.Books.{new}
-use Rattle.journal.specs.Rows.{Sizes, sizes}
+use Rattle.journal.specs.Rows.{sizes}
 use Rattle.journal.specs.Promise.{state, Stands, Steps, Step}
 use Rattle.journal.proofs.Journals.{step_more, calls_kept, new_stands, same_work, same_sizes}
 use Rattle.journal.proofs.lists.perform_all.Goals as goal

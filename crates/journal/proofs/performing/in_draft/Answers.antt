@@ -1,4 +1,4 @@
-use Rattle.std.proofs.Common.{◌≡◌, length, sym, refl, subst}
+use Rattle.std.proofs.Common.{length, sym, subst}
 use Rattle.plan.specs.Calls.{lengths}
 use Rattle.journal.specs.declared.calls.Call.{Call}
 use Rattle.journal.specs.declared.calls.Plan.TheVariants as stage

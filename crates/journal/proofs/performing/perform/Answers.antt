@@ -1,4 +1,4 @@
-use Rattle.std.proofs.Common.{◌≡◌, ℕ, length, sym, refl, ◌∙◌, subst}
+use Rattle.std.proofs.Common.{ℕ, length, sym, refl, ◌∙◌, subst}
 use Rattle.std.proofs.lemmas.Bool.{false≢true}
 use Rattle.plan.specs.Calls.{lengths}
 use Rattle.journal.specs.declared.calls.Plan.{Plan}

@@ -1,6 +1,6 @@
-use Rattle.std.proofs.Common.{◌≡◌, length, Ok, Err, sym, refl, ap, ◌∙◌, subst}
+use Rattle.std.proofs.Common.{◌≡◌, sym, ap, ◌∙◌, subst}
 use Rattle.std.proofs.lemmas.Result.{err_from_is_err_and}
-use Rattle.network.specs.Refusals.{Answers, First, Passed}
+use Rattle.network.specs.Refusals.{First, Passed}
 use Rattle.network.proofs.Refusals.{first_front, first_more, passed_more}
 use Rattle.records.specs.Register.{Memory, seen, front, all_of, register_of}
 use Rattle.records.specs.Stored.{Limits}
@@ -10,7 +10,6 @@ use Rattle.rules.proofs.Rows.{setting_named, turning_set}
 use Rattle.plan.specs.States.{open_memory}
 use Rattle.plan.specs.Calls.{lengths, open_call_rows}
 use Rattle.plan.proofs.Ready.{turning_ready}
-use Rattle.plan.proofs.admits.admit_turning.Given as given
 use Rattle.plan.proofs.admits.admit_turning.Goals as goal
 
 pub returns-in_err-admit : goal.returns-in_err-admit

@@ -1,11 +1,9 @@
-use Rattle.std.proofs.Common.{◌≡◌, List, length, get_or, set, Ok, Err, sym, refl, ap, ◌∙◌, subst, arith, set-set}
+use Rattle.std.proofs.Common.{◌≡◌, length, set, Ok, Err, sym, ap, ◌∙◌, subst, set-set}
 use lib.Seq.{set-get_or}
-use Rattle.records.specs.declared.Run.{Run}
 use Rattle.records.specs.Register.{Memory, seen, register_of}
 use Rattle.records.specs.Stored.{Stored}
 use Rattle.force.specs.Reckoned.{TimesAfter, RingAfter}
 use Rattle.plan.specs.States.{open_memory}
-use Rattle.plan.proofs.changes.replace_run.Given as given
 use Rattle.plan.proofs.changes.replace_run.Goals as goal
 
 pub reckon_plan-requires : goal.reckon_plan-requires

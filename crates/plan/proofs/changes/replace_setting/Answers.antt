@@ -1,6 +1,6 @@
-use Rattle.std.proofs.Common.{◌≡◌, length, get_or, set, Ok, Err, sym, refl, ap, ◌∙◌, subst, length-set, set-set}
+use Rattle.std.proofs.Common.{length, Ok, Err, sym, refl, ap, ◌∙◌, subst, length-set, set-set}
 use lib.Seq.{set-get_or}
-use Rattle.records.specs.Register.{Memory, seen, register_of}
+use Rattle.records.specs.Register.{Memory, register_of}
 use Rattle.records.specs.Stored.{Stored}
 use Rattle.force.specs.Reckoned.{TimesAfter, RingAfter}
 use Rattle.plan.proofs.changes.replace_setting.Goals as goal

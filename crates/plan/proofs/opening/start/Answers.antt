@@ -1,16 +1,14 @@
-use Rattle.std.proofs.Common.{◌≡◌, length, Ok, Err, sym, refl, ap, ◌∙◌, subst, arith}
+use Rattle.std.proofs.Common.{length, Ok, Err, subst, arith}
 use Rattle.std.proofs.lemmas.Result.{err_from_is_err_and}
 use Rattle.network.specs.Refusals.{First, Passed}
 use Rattle.network.proofs.Refusals.{first_front, first_more, passed_more}
-use Rattle.records.specs.Register.{Memory, seen, register_of}
-use Rattle.records.specs.Stored.{Stored}
+use Rattle.records.specs.Register.{Memory, register_of}
 use Rattle.force.specs.Reckoned.{TimesAfter, RingAfter}
 use Rattle.rules.specs.Faults.{plan_number, plan_place}
-use Rattle.rules.specs.Rows.{RecordsListed, draft_rows, SoundDraft}
+use Rattle.rules.specs.Rows.{draft_rows}
 use Rattle.plan.specs.States.{draft_memory}
 use Rattle.plan.specs.Calls.{lengths, length_rows, opening_rows}
 use Rattle.plan.proofs.Reckoned.{reckoned, refused}
-use Rattle.plan.proofs.opening.start.Given as given
 use Rattle.plan.proofs.opening.start.Goals as goal
 
 pub returns-in_err-check_work : goal.returns-in_err-check_work

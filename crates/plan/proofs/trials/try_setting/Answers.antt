@@ -1,4 +1,4 @@
-use Rattle.std.proofs.Common.{◌≡◌, ℕ, ◌*◌, ◌<◌, List, length, get_or, take, set, Ok, Err, sym, refl, ap, ◌∙◌, subst, arith, length-set, set-set}
+use Rattle.std.proofs.Common.{◌≡◌, ℕ, ◌*◌, length, take, set, Ok, Err, sym, ap, ◌∙◌, subst, arith, length-set, set-set}
 use lib.Seq.{set-get_or}
 use Rattle.std.proofs.lemmas.Result.{err_from_is_err_and}
 use Rattle.std.proofs.lemmas.List.{length-take-le}
@@ -9,7 +9,6 @@ use Rattle.force.specs.Reckoned.{TimesAfter, RingAfter}
 use Rattle.force.proofs.Sizes.{least_small}
 use Rattle.cost.specs.Cost.{delay_cost_lem}
 use Rattle.plan.specs.States.{open_memory}
-use Rattle.plan.proofs.trials.try_setting.Given as given
 use Rattle.plan.proofs.trials.try_setting.Goals as goal
 
 pub reckon_plan-requires : goal.reckon_plan-requires

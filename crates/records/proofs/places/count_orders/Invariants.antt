@@ -1,4 +1,4 @@
-use Rattle.std.proofs.Common.{◌≡◌, ℕ, ◌<◌, ◌≤◌, length, get_or}
+use Rattle.std.proofs.Common.{◌≡◌, ℕ, ◌<◌, length, get_or}
 use Rattle.records.specs.Places.{count, total}
 use Rattle.records.specs.Records.{track_of_lem}
 use Rattle.records.proofs.places.count_orders.Given as goal

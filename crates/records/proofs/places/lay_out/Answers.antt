@@ -1,7 +1,7 @@
-use Rattle.std.proofs.Common.{◌≡◌, ℕ, ◌+◌, ◌*◌, ◌<◌, ◌≤◌, length, get_or, set, sym, refl, ap, ◌∙◌, subst, arith, length-set}
+use Rattle.std.proofs.Common.{◌≡◌, ℕ, ◌<◌, length, get_or, refl, ap, ◌∙◌, subst, arith, length-set}
 use Rattle.std.proofs.lemmas.List.{get_or-replicate}
 use Rattle.records.specs.Places.{count, earlier, total, Previous, Laid}
-use Rattle.records.specs.Records.{track_of_lem, run_at}
+use Rattle.records.specs.Records.{track_of_lem}
 use Rattle.records.proofs.Counts.{count_small, total_small, total_more, laid_more, tally_more, last_more}
 use Rattle.records.proofs.places.lay_out.Goals as goal
 

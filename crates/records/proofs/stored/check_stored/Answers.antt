@@ -1,7 +1,7 @@
-use Rattle.std.proofs.Common.{◌≡◌, ℕ, ◌<◌, ◌≤◌, length, take, sym, refl, ap, ◌∙◌, subst, inl, inr, arith}
+use Rattle.std.proofs.Common.{length, sym, ap, ◌∙◌, subst, inl, inr, arith}
 use Rattle.std.proofs.lemmas.List.{length-take-le}
 use Rattle.std.proofs.lemmas.Bool.{false≢true}
-use Rattle.records.specs.Register.{Memory, seen, front, all_of}
+use Rattle.records.specs.Register.{Memory, all_of}
 use Rattle.records.specs.Stored.{Limits}
 use Rattle.records.proofs.stored.check_stored.Goals as goal
 

@@ -1,4 +1,4 @@
-use Rattle.std.proofs.Common.{◌≡◌, ℕ, ◌+◌, ◌<◌, ◌≤◌, sym, refl, subst, arith, below_more}
+use Rattle.std.proofs.Common.{sym, refl, subst, arith, below_more}
 use Rattle.std.proofs.lemmas.Bool.{false≢true, both_ways}
 use Rattle.records.specs.declared.Connection.{Connection}
 use Rattle.records.specs.Records.{connection_at}

@@ -1,6 +1,4 @@
-use Rattle.std.proofs.Common.{◌≡◌, ℕ, ◌+◌, ◌<◌, ◌≤◌, get_or, refl, subst, arith, below_more}
-use Rattle.std.proofs.lemmas.Bool.{false≢true}
-use Rattle.records.specs.Stored.{FlagsStored}
+use Rattle.std.proofs.Common.{◌+◌, ◌≤◌, get_or, refl, arith, below_more}
 use Rattle.records.proofs.stored.flags_stored.Goals as goal
 
 pub loop-i-init : goal.loop-i-init

@@ -1,4 +1,4 @@
-use Rattle.std.proofs.Common.{◌≡◌, ℕ, ◌/◌, ◌%◌, length, set, Some, None, Ok, Err, sym, refl, ap, ◌∙◌, subst, arith}
+use Rattle.std.proofs.Common.{◌≡◌, length, set, None, Ok, Err, sym, refl, ap, ◌∙◌, subst, arith}
 use Rattle.std.proofs.lemmas.Result.{err_from_is_err_and}
 use Rattle.records.specs.declared.Run.{Run}
 use Rattle.records.specs.Records.{run_at}
@@ -9,7 +9,6 @@ use Rattle.plan.specs.States.{open_memory}
 use Rattle.plan.specs.Steps.{holding, hold_memory}
 use Rattle.plan.specs.Calls.{lengths, release_call_rows}
 use Rattle.plan.proofs.Reckoned.{reckoned, refused}
-use Rattle.plan.proofs.states.Open.strike.Given as given
 use Rattle.plan.proofs.states.Open.strike.Goals as goal
 
 pub returns-in_err-admit_release : goal.returns-in_err-admit_release

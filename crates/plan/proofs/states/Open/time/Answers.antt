@@ -1,15 +1,13 @@
-use Rattle.std.proofs.Common.{◌≡◌, ◌≤◌, length, get_or, sym, refl, ap, ◌∙◌, subst, arith, MatchResult}
+use Rattle.std.proofs.Common.{◌≡◌, ◌≤◌, length, sym, ap, ◌∙◌, subst, arith}
 use Rattle.std.proofs.lemmas.Result.{err_from_is_err_and}
 use Rattle.std.proofs.lemmas.List.{get_or_read}
-use Rattle.network.specs.Reckoning.{at}
 use Rattle.network.specs.Refusals.{First, Passed}
 use Rattle.network.proofs.Refusals.{first_front, first_more, passed_more}
 use Rattle.records.specs.Register.{Memory, seen, front, all_of, register_of}
 use Rattle.rules.specs.Faults.{plan_number, plan_place}
-use Rattle.rules.specs.Rows.{open_rows, event_rows, SoundOpen}
+use Rattle.rules.specs.Rows.{open_rows, event_rows}
 use Rattle.rules.proofs.Rows.{event_passed}
 use Rattle.plan.specs.States.{open_memory}
-use Rattle.plan.proofs.states.Open.time.Given as given
 use Rattle.plan.proofs.states.Open.time.Goals as goal
 
 pub returns-in_err-check_open : goal.returns-in_err-check_open

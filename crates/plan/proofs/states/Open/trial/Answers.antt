@@ -1,4 +1,4 @@
-use Rattle.std.proofs.Common.{◌≡◌, ℕ, length, set, Ok, Err, sym, refl, ap, ◌∙◌, subst, arith}
+use Rattle.std.proofs.Common.{ℕ, length, set, Ok, Err, sym, refl, ap, ◌∙◌, subst}
 use Rattle.std.proofs.lemmas.Result.{err_from_is_err_and}
 use Rattle.records.specs.Register.{register_of}
 use Rattle.records.specs.Stored.{Stored}
@@ -9,7 +9,6 @@ use Rattle.plan.specs.States.{open_memory}
 use Rattle.plan.specs.Steps.{switch_memory}
 use Rattle.plan.specs.Calls.{lengths, turning_call_rows}
 use Rattle.plan.proofs.Reckoned.{reckoned_ok, reckoned_err, refused, turning_under}
-use Rattle.plan.proofs.states.Open.trial.Given as given
 use Rattle.plan.proofs.states.Open.trial.Goals as goal
 
 pub returns-in_err-place : goal.returns-in_err-place
