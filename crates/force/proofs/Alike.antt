@@ -1,6 +1,6 @@
 -- Networks that differ only in how their arcs are named have the same tables, least times and rings.
 use Rattle.std.proofs.Common.{◌≡◌, ℕ, suc, ◌-◌, ◌<◌, ◌⊎◌, List, [], ◌∷◌, reverse, length, sym, refl, ap, ◌∙◌, subst, inl, inr, arith}
-use Rattle.std.specs.List.{AllByRecursion as All}
+use Rattle.std.specs.List.{AllByRecursion}
 use Rattle.kinds.specs.Time.{Time}
 use Rattle.network.specs.declared.Arc.{Arc}
 use Rattle.network.specs.Network.{Arcs, Network, UpTo, After, Apart, Chain, along, ends, Ring, HasRing, Foremost, Names, Reaches, Table, Meets, NoTable, LatestWalks, Equation, Least}
@@ -69,7 +69,7 @@ module _ {K : Type 0} (t : Time K) (A B : Arcs K) (there : Renames A B) where
         let Q : Arc K → Type 0 = λ a. UpTo t (A.arc b.0).duration a.duration in
         subst P b.2 (subst Q (sym r.2) (fore b.0 b.1 (from _ _ b.2 ∙ starts ∙ from _ _ r.2) (to _ _ b.2 ∙ ends_at ∙ to _ _ r.2)))
 
-    foremosts_there : (u v : ℕ) (ks : List A.Name) (c : Chain t A u ks v) → All (Foremost t A) ks → All (Foremost t B) (renamed u v ks c)
+    foremosts_there : (u v : ℕ) (ks : List A.Name) (c : Chain t A u ks v) → AllByRecursion (Foremost t A) ks → AllByRecursion (Foremost t B) (renamed u v ks c)
     unfolding renamed
     foremosts_there u v [] c all = tt
     foremosts_there u v (k ∷ ks) c all = (foremost_there k c.0 all.0, foremosts_there u (A.arc k).from ks c.2 all.1)

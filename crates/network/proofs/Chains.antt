@@ -1,6 +1,6 @@
 -- Chains of arcs put together and taken apart.
 use Rattle.std.proofs.Common.{◌≡◌, ℕ, zero, suc, ◌+◌, ◌*◌, ◌<◌, ◌≤◌, List, [], ◌∷◌, ◌++◌, length, get_or, sym, refl, ap, ◌∙◌, arith}
-use Rattle.std.specs.List.{AllByRecursion as All}
+use Rattle.std.specs.List.{AllByRecursion}
 use Rattle.kinds.specs.Time.{Time, Laws}
 use Rattle.network.specs.declared.Arc.{Arc}
 use Rattle.network.specs.Network.{UpTo, Arcs, Chain, along, ends}
@@ -58,7 +58,7 @@ module _ {K : Type 0} {t : Time K} (laws : Laws t) (n : ℕ) (A : Arcs K) (fit :
       let e = along_join x b u ks (A.arc k).from c.2 h (omega arith) in
       ap (λ y. t.join y (A.arc k).duration) e ∙ laws.assoc x (along t A t.none ks) (A.arc k).duration (omega arith)
 
-  pub ends_inside : (u v : ℕ) (ks : List A.Name) → Chain t A u ks v → All (λ e. e < n) (ends t A ks)
+  pub ends_inside : (u v : ℕ) (ks : List A.Name) → Chain t A u ks v → AllByRecursion (λ e. e < n) (ends t A ks)
   ends_inside u v [] c = tt
   ends_inside u v (k ∷ ks) c = (fit.ends k c.0, ends_inside u (A.arc k).from ks c.2)
 

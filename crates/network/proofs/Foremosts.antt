@@ -1,7 +1,7 @@
 -- A ring by the latest durations between its events.
 use Rattle.std.proofs.Common.{◌≡◌, ℕ, zero, suc, ◌+◌, ◌-◌, ◌<◌, ◌≤◌, ◌⊎◌, List, [], ◌∷◌, reverse, length, take, drop, sym, refl, ap, ◌∙◌, subst, inl, inr, arith}
 use Rattle.std.proofs.lemmas.List.{drop-take, length-take, length-drop}
-use Rattle.std.specs.List.{AllByRecursion as All}
+use Rattle.std.specs.List.{AllByRecursion}
 use Rattle.std.proofs.lemmas.Bool.{cases_eq, cases_Bool, cases_lt}
 use Rattle.kinds.specs.Time.{Time, Laws}
 use Rattle.network.specs.declared.Arc.{Arc}
@@ -66,7 +66,7 @@ module _ {K : Type 0} {t : Time K} (laws : Laws t) (n : ℕ) (arcs : List (Arc K
   -- a chain with the best arcs between the same events
   pub record Better (u v : ℕ) (ks ls : List ℕ) : Type 0 where
     pub chain : Chain t (placed t arcs) u ls v
-    pub foremost : All (Foremost t (placed t arcs)) ls
+    pub foremost : AllByRecursion (Foremost t (placed t arcs)) ls
     pub same : ends t (placed t arcs) ls ≡ ends t (placed t arcs) ks
     pub count : length ls ≡ length ks
     pub up : UpTo t (along t (placed t arcs) t.none ks) (along t (placed t arcs) t.none ls)

@@ -1,6 +1,6 @@
 -- The marks of the events that a trace has come through.
 use Rattle.std.proofs.Common.{◌≡◌, ℕ, ◌+◌, ◌<◌, ◌≤◌, ◌⊎◌, List, ◌∷◌, length, get_or, take, set, replicate, ap, ◌∙◌, inl, inr, arith, below_more}
-use Rattle.std.specs.List.{AllByRecursion as All}
+use Rattle.std.specs.List.{AllByRecursion}
 use Rattle.std.proofs.lemmas.Bool.{cases_eq}
 use Rattle.std.proofs.ByRecursion.{All-from_get_or}
 use Rattle.std.proofs.lemmas.List.{length-take, get_or-take, get_or-set_same, get_or-set_other, get_or-replicate}
@@ -41,7 +41,7 @@ module _ {K : Type 0} {t : Time K} (arcs : List (Arc K)) (n : ℕ) where
         let at_j : (j : ℕ) → j < i → get_or (ends t (placed t arcs) (take i path)) j 0 ≡ (arc_at t arcs (get_or path j 0)).to = λ j h. event_at t arcs (take i path) j (omega arith) ∙ ap (λ k. (arc_at t arcs k).to) (get_or-take i path j 0 h) in
         let a : Apart (ends t (placed t arcs) (take i path)) = apart_by (λ v. get_or seen v 0) 0 (ends t (placed t arcs) (take i path)) (λ j h. let l : j < i = omega arith in ap (λ v. get_or seen v 0) (at_j j l) ∙ m.mark j l ∙ (omega arith)) in
         let l : Lacks u (ends t (placed t arcs) (take i path)) = lacks_other (λ v. get_or seen v 0) u (ends t (placed t arcs) (take i path)) (λ j h e. let l : j < i = omega arith in let p = m.mark j l in let q = ap (λ v. get_or seen v 0) (at_j j l) in omega arith) in
-        let b : All (λ v. v < n) (ends t (placed t arcs) (take i path)) = All-from_get_or (λ v. v < n) (ends t (placed t arcs) (take i path)) 0 (λ j h. let l : j < i = omega arith in rw (at_j j l) (m.inside j l)) in
+        let b : AllByRecursion (λ v. v < n) (ends t (placed t arcs) (take i path)) = All-from_get_or (λ v. v < n) (ends t (placed t arcs) (take i path)) 0 (λ j h. let l : j < i = omega arith in rw (at_j j l) (m.inside j l)) in
         let p = pigeon n (u ∷ ends t (placed t arcs) (take i path)) (l, a) (in-u, b) in
         omega arith
 

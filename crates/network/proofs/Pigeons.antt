@@ -1,6 +1,6 @@
 -- Numbers below n that are all apart are at most n.
 use Rattle.std.proofs.Common.{◌≡◌, ℕ, zero, suc, ◌+◌, ◌<◌, ◌≤◌, cond, eqb, List, [], ◌∷◌, length, get_or, sym, ap, arith}
-use Rattle.std.specs.List.{AllByRecursion as All}
+use Rattle.std.specs.List.{AllByRecursion}
 use Rattle.std.proofs.lemmas.Bool.{cond_both, eqb-true, eqb-false}
 use Rattle.network.specs.Network.{Lacks, Apart}
 
@@ -33,18 +33,18 @@ lacks_self x (u ∷ us) a =
     (λ e. rw (eqb-true u x e) at a.0)
     (λ e. ((λ q. eqb-false u x e (sym q)), lacks_self x us a.1))
 
-below_without : (n x : ℕ) (us : List ℕ) → All (λ u. u < n) us → All (λ u. u < n) (without x us)
+below_without : (n x : ℕ) (us : List ℕ) → AllByRecursion (λ u. u < n) us → AllByRecursion (λ u. u < n) (without x us)
 unfolding without
 below_without n x [] b = b
-below_without n x (u ∷ us) b = cond_both (eqb u x) us (u ∷ without x us) (All (λ u. u < n)) (λ _. b.1) (λ _. (b.0, below_without n x us b.1))
+below_without n x (u ∷ us) b = cond_both (eqb u x) us (u ∷ without x us) (AllByRecursion (λ u. u < n)) (λ _. b.1) (λ _. (b.0, below_without n x us b.1))
 
-lower : (n : ℕ) (us : List ℕ) → All (λ u. u < suc n) us → Lacks n us → All (λ u. u < n) us
+lower : (n : ℕ) (us : List ℕ) → AllByRecursion (λ u. u < suc n) us → Lacks n us → AllByRecursion (λ u. u < n) us
 lower n [] b l = tt
 lower n (u ∷ us) b l =
     let p = b.0 in let ne : n ≡ u → ⊥ = l.0 in
     (omega arith, lower n us b.1 l.1)
 
-pub pigeon : (n : ℕ) (us : List ℕ) → Apart us → All (λ u. u < n) us → length us ≤ n
+pub pigeon : (n : ℕ) (us : List ℕ) → Apart us → AllByRecursion (λ u. u < n) us → length us ≤ n
 pigeon zero [] a b = omega arith
 pigeon zero (u ∷ us) a b = let p = b.0 in absurd (omega arith)
 pigeon (suc n) us a b =

@@ -1,7 +1,7 @@
 -- Networks: events with floors, arcs with durations, the tables that meet them, their least times and their rings. Nothing here
 -- says how times are found. Assumes nothing.
 use Rattle.std.specs.Prelude.{◌≡◌, ℕ, ◌-◌, ◌<◌, ◌≤◌, true, false, ◌⊎◌, List, [], ◌∷◌, ◌++◌, reverse, length, ◌≢◌, slice_index}
-use Rattle.std.specs.List.{AllByRecursion as All}
+use Rattle.std.specs.List.{AllByRecursion}
 use Rattle.kinds.specs.Time.{Time}
 use Rattle.network.specs.declared.Arc.{Arc}
 
@@ -68,12 +68,12 @@ module _ {K : Type 0} (t : Time K) where
     pub record Names (events : List ℕ) : Type 0 where
       pub circuit : List A.Name
       pub ring : Ring circuit
-      pub foremost : All Foremost circuit
+      pub foremost : AllByRecursion Foremost circuit
       pub front : List ℕ
       pub back : List ℕ
       pub circuit_is : reverse (ends circuit) ≡ front ++ back
       pub named : events ≡ back ++ front
-      pub smallest : All (λ v. slice_index events 0 ≤ v) events
+      pub smallest : AllByRecursion (λ v. slice_index events 0 ≤ v) events
 
   module _ (N : Network K) where
     -- x is a floor joined along a walk of j arcs that ends at v

@@ -1,7 +1,7 @@
 -- Inner words of the reckoning: one round of raising times, and the memory of rows by which a rise is traced back. No public
 -- promise speaks of them. Assumes nothing.
 use Rattle.std.specs.Prelude.{◌≡◌, ℕ, ◌+◌, ◌-◌, ◌*◌, ◌<◌, ◌≤◌, ◌⊎◌, List, ◌++◌, reverse, length, take, drop, Some, None, Option, slice_index, slice_index_or}
-use Rattle.std.specs.List.{AllByRecursion as All}
+use Rattle.std.specs.List.{AllByRecursion}
 use Rattle.kinds.specs.Time.{Time}
 use Rattle.network.specs.declared.Arc.{Arc}
 use Rattle.network.specs.Network.{UpTo, After, LatestWalks, ends, Least, HasRing, Names, NoTable}
@@ -70,7 +70,7 @@ module _ {K : Type 0} (t : Time K) where
     pub back : List ℕ
     pub circuit_is : reverse (ends t (placed t arcs) ks) ≡ front ++ back
     pub named : events ≡ back ++ front
-    pub smallest : All (λ v. slice_index events 0 ≤ v) events
+    pub smallest : AllByRecursion (λ v. slice_index events 0 ≤ v) events
 
   -- what solving answers: no number and the least times, or how many events of a ring stand at the front of ring memory
   abbrev pub Solved : List K → List (Arc K) → List K → List ℕ → List ℕ → Option ℕ → Type 0

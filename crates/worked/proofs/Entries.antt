@@ -1,6 +1,6 @@
 -- The rows of a track, a run and a connection that is entered, by tests that compute.
 use Rattle.std.proofs.Common.{◌≡◌, ℕ, Bool, true, not, ◌&&◌, eqb, ltb, leb, List, [], ◌∷◌, length, Some, None, Option, arith}
-use Rattle.std.specs.List.{AllByRecursion as All}
+use Rattle.std.specs.List.{AllByRecursion}
 use Rattle.std.proofs.lemmas.Bool.{both_ways, and_parts, ltb-true, leb-true, eqb-false, not-true}
 use Rattle.kinds.specs.Time.{Time}
 use Rattle.kinds.specs.declared.Seconds.{Seconds}
@@ -20,7 +20,7 @@ abbrev pub all_true : List Bool → Bool
 all_true [] = true
 all_true (b ∷ rest) = b && all_true rest
 
-pub each_true : (tests : List Bool) → all_true tests ≡ true → All (λ b. b ≡ true) tests
+pub each_true : (tests : List Bool) → all_true tests ≡ true → AllByRecursion (λ b. b ≡ true) tests
 each_true [] h = tt
 each_true (b ∷ rest) h =
     let parts = and_parts b (all_true rest) h in

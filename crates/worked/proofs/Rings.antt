@@ -1,6 +1,6 @@
 -- Rings by computation: an order of two runs, an arc that no other passes, and a ring that leaves no table.
 use Rattle.std.proofs.Common.{◌≡◌, ℕ, ◌*◌, Bool, true, cond, ◌&&◌, eqb, ltb, leb, List, [], ◌∷◌, length}
-use Rattle.std.specs.List.{AllByRecursion as All}
+use Rattle.std.specs.List.{AllByRecursion}
 use Rattle.std.proofs.lemmas.Bool.{and_parts, and_from, ltb-true, leb-true, eqb-true, eq-eqb}
 use Rattle.kinds.specs.Time.{Time, Laws}
 use Rattle.network.specs.declared.Arc.{Arc}
@@ -34,7 +34,7 @@ module _ {K : Type 0} (t : Time K) (R : Register K) where
   none_past [] = true
   none_past (a ∷ rest) = every_arc (not_past a) t R && none_past rest
 
-  pub foremosts_by : (circuit : List (Arc K)) → none_past circuit ≡ true → All (Foremost t (arcs_in_force t R)) circuit
+  pub foremosts_by : (circuit : List (Arc K)) → none_past circuit ≡ true → AllByRecursion (Foremost t (arcs_in_force t R)) circuit
   foremosts_by [] h = tt
   foremosts_by (a ∷ rest) h =
       let parts = and_parts (every_arc (not_past a) t R) (none_past rest) h in
