@@ -35,7 +35,7 @@ module _ {K : Type 0} (t : Time K) (R : Register K) where
 
   -- b is the setting of the order of two runs that share a track
   pub turn_is : (j i b penalty n : ℕ) → track_in t R i ≡ track_in t R j → b ≡ R.order i j → penalty ≡ (track_under t R j).penalty → n ≡ cond (eqb b 1) penalty 0 → n ≡ turn_cost t R j i
-  turn_is j i b penalty n on is_b is-p e = let same = eq-eqb (track_in t R i) (track_in t R j) on in e ∙ rw (same, is_b, is-p) refl
+  turn_is j i b penalty n on is_b is_p e = let same = eq-eqb (track_in t R i) (track_in t R j) on in e ∙ rw (same, is_b, is_p) refl
 
   -- the penalty of the track of run j
   pub penalty_is : (j : ℕ) (x : Run K) (k : Track K) → x ≡ run_in t R j → k ≡ track_at t R.tracks x.track → k.penalty ≡ (track_under t R j).penalty

@@ -95,13 +95,13 @@ module _ {K : Type 0} (t : Time K) (R : Register K) (limits : Limits t R) (n m :
     few = omega (arith, h.2);
   }
 
-  pub ring_told : (times ring-length tables marks : ℕ) → times ≡ 1024 → ring-length ≡ 1024 → tables ≡ 2048 → marks ≡ 1050624 → (was ring : List ℕ) (r : Result (Unit {0}) NetworkFault) → Answers network_number network_place (reckon_rows t (handed n m floors arcs times ring-length tables marks)) r → RingExactly t (handed n m floors arcs times ring-length tables marks) → RingHolds t n m arcs was ring r → RingAfter t R was ring r
-  ring_told times ring-length tables marks a b c d was ring (Ok x) answer exactly h =
-      let H = handed n m floors arcs times ring-length tables marks in
+  pub ring_told : (times ring_length tables marks : ℕ) → times ≡ 1024 → ring_length ≡ 1024 → tables ≡ 2048 → marks ≡ 1050624 → (was ring : List ℕ) (r : Result (Unit {0}) NetworkFault) → Answers network_number network_place (reckon_rows t (handed n m floors arcs times ring_length tables marks)) r → RingExactly t (handed n m floors arcs times ring_length tables marks) → RingHolds t n m arcs was ring r → RingAfter t R was ring r
+  ring_told times ring_length tables marks a b c d was ring (Ok x) answer exactly h =
+      let H = handed n m floors arcs times ring_length tables marks in
       let none = last_passed (first_rows t H) (row 12 0 (HasRing t (placed t (take m arcs)))) answer in
       ((λ some. none (ring_there t (arcs_in_force t R) (placed t (take m arcs)) kept_alike.back some)), h)
-  ring_told times ring-length tables marks a b c d was ring (Err f) answer exactly h =
-      let H = handed n m floors arcs times ring-length tables marks in
-      let passed = rows_passed times ring-length tables marks a b c d in
+  ring_told times ring_length tables marks a b c d was ring (Err f) answer exactly h =
+      let H = handed n m floors arcs times ring_length tables marks in
+      let passed = rows_passed times ring_length tables marks a b c d in
       let last = last_row (first_rows t H) (row 12 0 (HasRing t (placed t (take m arcs)))) (network_number f) (network_place f) passed answer in
       found was ring f last.1 (no_table_there t (network_of t (take n floors) (take m arcs)) (in_force t R) kept_alike ((exactly passed).0 last.0)) h

@@ -11,7 +11,7 @@ use Rattle.force.specs.Added.{FloorsOf, Filled}
 
 module _ {K : Type 0} (t : Time K) (R : Register K) where
   pub floors_more : (r : ℕ) (xs : List K) (d a : K) → 2 * r + 1 < length xs → d ≡ departure_floor_lem t (run_in t R r) → a ≡ arrival_floor_lem t (run_in t R r) → FloorsOf t R r xs → FloorsOf t R (r + 1) (set (set xs (2 * r) d) (2 * r + 1) a)
-  floors_more r xs d a room is-d is-a old =
+  floors_more r xs d a room is_d is_a old =
       let ys = set xs (2 * r) d in
       let long : length ys ≡ length xs = length-set xs (2 * r) d in
       let other : (k : ℕ) → k < 2 * r → at t (set ys (2 * r + 1) a) k ≡ at t xs k =
@@ -19,10 +19,10 @@ module _ {K : Type 0} (t : Time K) (R : Register K) where
       record {
         departures = below_more (λ k. at t (set ys (2 * r + 1) a) (2 * k) ≡ departure_floor_lem t (run_in t R k)) r
             (λ k h. other (2 * k) (omega arith) ∙ old.departures k h)
-            (get_or-set_other ys (2 * r + 1) (2 * r) a _ (omega arith) ∙ get_or-set_same xs (2 * r) d _ (omega arith) ∙ is-d);
+            (get_or-set_other ys (2 * r + 1) (2 * r) a _ (omega arith) ∙ get_or-set_same xs (2 * r) d _ (omega arith) ∙ is_d);
         arrivals = below_more (λ k. at t (set ys (2 * r + 1) a) (2 * k + 1) ≡ arrival_floor_lem t (run_in t R k)) r
             (λ k h. other (2 * k + 1) (omega arith) ∙ old.arrivals k h)
-            (get_or-set_same ys (2 * r + 1) a _ (omega arith) ∙ is-a);
+            (get_or-set_same ys (2 * r + 1) a _ (omega arith) ∙ is_a);
       }
 
   -- the floor of an even event, and of an odd one

@@ -17,7 +17,7 @@ module _ {K : Type 0} (t : Time K) where
   listed_take P ys n room h =
       let e : length (take n ys) ≡ n = length-take-le n ys room in
       record {
-        each = λ k l. (let k-n : k < n = omega arith in rw (get_or-take n ys k _ k-n) (h.each k k-n));
+        each = λ k l. (let k_n : k < n = omega arith in rw (get_or-take n ys k _ k_n) (h.each k k_n));
         all = λ a p. (let r = h.all a p in (r.0, (omega (arith, r.1.0), get_or-take n ys r.0 _ r.1.0 ∙ r.1.1)));
       }
 

@@ -63,14 +63,14 @@ module _ {K : Type 0} (t : Time K) where
   run_is r x y xs ys m n e h = let P : Run K → Type 0 = λ z. Added t (OfRun r z) xs m ys n in subst P e h
 
   pub order_is : (R : Register K) (w : Track K) (b i j : ℕ) (x y : Run K) (xs ys : List (Arc K)) (m n : ℕ) → w ≡ track_at t R.tracks y.track → b ≡ R.order i j → x ≡ run_in t R i → y ≡ run_in t R j → track_in t R i ≡ track_in t R j → Added t (Turns w b i x j y) xs m ys n → Added t (OrderOf t R j i) xs m ys n
-  order_is R w b i j x y xs ys m n is-w is_b is_x is_y shared h =
+  order_is R w b i j x y xs ys m n is_w is_b is_x is_y shared h =
       let W : Track K → Type 0 = λ z. Added t (Turns z b i x j y) xs m ys n in
       let B : ℕ → Type 0 = λ z. Added t (Turns (track_at t R.tracks y.track) z i x j y) xs m ys n in
       let X : Run K → Type 0 = λ z. Added t (Turns (track_at t R.tracks y.track) (R.order i j) i z j y) xs m ys n in
       let Y : Run K → Type 0 = λ z. Added t (Turns (track_at t R.tracks z.track) (R.order i j) i (run_in t R i) j z) xs m ys n in
       let T : Arc K → Type 0 = Turns (track_at t R.tracks (track_in t R j)) (R.order i j) i (run_in t R i) j (run_in t R j) in
       added_as t T (OrderOf t R j i) xs ys m n (λ a f. (shared, f)) (λ a f. f.1)
-      (subst Y is_y (subst X is_x (subst B is_b (subst W is-w h))))
+      (subst Y is_y (subst X is_x (subst B is_b (subst W is_w h))))
 
   pub keeps_not : (b : ℕ) (c : Connection K) (o : Run K) (xs : List (Arc K)) (m : ℕ) → (b ≡ 0 → ⊥) → Added t (Keeps b c o) xs m xs m
   keeps_not b c o xs m e = added_none t (Keeps b c o) xs m (λ a h. e h.0)
@@ -79,8 +79,8 @@ module _ {K : Type 0} (t : Time K) where
   keeps_so b c o xs ys m n e h = added_as t (Connects c o) (Keeps b c o) xs ys m n (λ a f. (e, f)) (λ a f. f.1) h
 
   pub connection_is : (R : Register K) (i : ℕ) (c : Connection K) (o : Run K) (xs ys : List (Arc K)) (m n : ℕ) → c ≡ connection_at t R.connections i → o ≡ run_in t R c.onward → Added t (Keeps (R.link i) c o) xs m ys n → Added t (ConnectionOf t R i) xs m ys n
-  connection_is R i c o xs ys m n is_c is-o h =
+  connection_is R i c o xs ys m n is_c is_o h =
       let b = R.link i in
       let O : Run K → Type 0 = λ z. Added t (Keeps b c z) xs m ys n in
       let C : Connection K → Type 0 = λ z. Added t (Keeps b z (run_in t R z.onward)) xs m ys n in
-      subst C is_c (subst O is-o h)
+      subst C is_c (subst O is_o h)

@@ -64,7 +64,7 @@ switched_runs R (switch.Order i j) setting = refl
 switched_runs R (switch.Connection c) setting = refl
 
 module _ {K : Type 0} (t : Time K) (laws : Laws t) (o : Open) (tracks : List (Track K)) (runs : List (Run K)) (connections : List (Connection K)) (settings : List ℕ) (times : List K) (slips : List (Option Slip))
-    (B : Books K) (st : Stands t B (state (stage.Open o) tracks runs connections settings times slips)) (records : RecordsListed (open_memory o tracks runs connections settings)) (long-times : length times ≡ 1024) where
+    (B : Books K) (st : Stands t B (state (stage.Open o) tracks runs connections settings times slips)) (records : RecordsListed (open_memory o tracks runs connections settings)) (long_times : length times ≡ 1024) where
   abbrev m : Memory K
   m = open_memory o tracks runs connections settings
 
@@ -87,14 +87,14 @@ module _ {K : Type 0} (t : Time K) (laws : Laws t) (o : Open) (tracks : List (Tr
   open_passed =
       let z = long_runs in
       let shown : Shown t times (2 * o.runs) = record { each = λ v h. least_small t B.register limits laws (at t times) (st.shows opened) v (omega arith) } in
-      ((λ no-lists. no-lists records), ((λ other. other long-times), ((λ no_store. no_store st.stored), ((λ none. none shown), tt))))
+      ((λ no_lists. no_lists records), ((λ other. other long_times), ((λ no_store. no_store st.stored), ((λ none. none shown), tt))))
 
   module _ (l : Sizes) (listed : AllListed l) (ring ring' : List ℕ) (trial : List K) where
     pub fronts_pass : (own : List Row) → Passed own → Passed (controlling t l B own)
-    fronts_pass own p = ((λ e. false≢true (sym e ∙ opened)), ((λ no-lists. no-lists listed), p))
+    fronts_pass own p = ((λ e. false≢true (sym e ∙ opened)), ((λ no_lists. no_lists listed), p))
 
     pub fronts_first : (own : List Row) (n p : ℕ) → First own n p → First (controlling t l B own) n p
-    fronts_first own n p f = inr ((λ e. false≢true (sym e ∙ opened)), inr ((λ no-lists. no-lists listed), f))
+    fronts_first own n p f = inr ((λ e. false≢true (sym e ∙ opened)), inr ((λ no_lists. no_lists listed), f))
 
     -- the open plan with another register, whose runs are held as they were
     pub open_stands : (runs' : List (Run K)) (settings' : List ℕ) (times' : List K) (R : Register K) → Stored t (open_memory o tracks runs' connections settings') → Same t (register_of t (open_memory o tracks runs' connections settings')) R → length R.runs ≡ length B.register.runs → ((r : ℕ) → (run_at t R.runs r).hold ≡ (run_at t B.register.runs r).hold) → Least t (in_force t R) (at t times') → Stands t (with_register B R) (state (stage.Open o) tracks runs' connections settings' times' slips)
@@ -107,9 +107,9 @@ module _ {K : Type 0} (t : Time K) (laws : Laws t) (o : Open) (tracks : List (Tr
       shows = λ _. least;
       slips = st.slips;
       held = λ _ r h. (
-          let was-held = st.held opened r (omega arith) in
+          let was_held = st.held opened r (omega arith) in
           let P : Option K → Type 0 = Given in
-          ((λ e. subst P (sym (holds r)) (was-held.0 e)), (λ given. was-held.1 (subst P (holds r) given))));
+          ((λ e. subst P (sym (holds r)) (was_held.0 e)), (λ given. was_held.1 (subst P (holds r) given))));
       own = λ r x e. (let w = st.own r x e in let z = w.2 in (w.0, w.1, omega arith));
     }
 
@@ -123,7 +123,7 @@ module _ {K : Type 0} (t : Time K) (laws : Laws t) (o : Open) (tracks : List (Tr
 
     module _ (w : Lengths) (works : Listed w) (kept : LimitsKept t) where
       off : Passed (open_call_rows t w m times)
-      off = ((λ no-lists. no-lists works), open_passed)
+      off = ((λ no_lists. no_lists works), open_passed)
 
       pub turned_same : (s : Switch) (setting : ℕ) → Passed (turning_rows t was s setting) → Same t (register_of t (switch_memory t m s setting)) (set_switch B.register s setting)
       turned_same s setting fine = same_trans t _ _ _ ((steps_of t m st.stored records).switch s setting (setting_named t was s setting (turning_set t was s setting fine))) (set_switch_kept t was B.register st.same s setting)
@@ -162,11 +162,11 @@ module _ {K : Type 0} (t : Time K) (laws : Laws t) (o : Open) (tracks : List (Tr
           let P : List ℕ → Type 0 = λ bs. Stands t (taken t B (call.Turn s setting)) (state (stage.Open o) tracks runs connections bs times' slips) in
           (record { answers = fronts_pass (turning_rows t B.register s setting ++ ring_rows t (set_switch B.register s setting)) r.0; carried = refl; named = tt }, subst P (sym written) base)
 
-      pub trial_step : (s : Switch) (setting n : ℕ) (trial-was : List K) → Reckons t (open_call_rows t w m times ++ turning_rows t was s setting) (register_of t (switch_memory t m s setting)) trial-was trial ring ring' (took ℕ n) → n ≡ delay_cost_lem t (register_of t (switch_memory t m s setting)) (at t trial) → Told t l B (call.Trial s setting) (Ok (answer.Cost n)) ring' trial
-      trial_step s setting n trial-was k cost =
+      pub trial_step : (s : Switch) (setting n : ℕ) (trial_was : List K) → Reckons t (open_call_rows t w m times ++ turning_rows t was s setting) (register_of t (switch_memory t m s setting)) trial_was trial ring ring' (took ℕ n) → n ≡ delay_cost_lem t (register_of t (switch_memory t m s setting)) (at t trial) → Told t l B (call.Trial s setting) (Ok (answer.Cost n)) ring' trial
+      trial_step s setting n trial_was k cost =
           let fine = passed_back (open_call_rows t w m times) (turning_rows t was s setting) (passed_front (open_call_rows t w m times ++ turning_rows t was s setting) (ring_rows t (register_of t (switch_memory t m s setting))) k.answers) in
           let same = turned_same s setting fine in
-          let r = reckoned_taken t (open_call_rows t w m times) (turning_rows t was s setting) (turning_rows t B.register s setting) (register_of t (switch_memory t m s setting)) (set_switch B.register s setting) off (turning_match t was B.register st.same s setting) (λ _. same) trial-was trial ring ring' ℕ n k in
+          let r = reckoned_taken t (open_call_rows t w m times) (turning_rows t was s setting) (turning_rows t B.register s setting) (register_of t (switch_memory t m s setting)) (set_switch B.register s setting) off (turning_match t was B.register st.same s setting) (λ _. same) trial_was trial ring ring' ℕ n k in
           record {
             answers = fronts_pass (turning_rows t B.register s setting ++ ring_rows t (set_switch B.register s setting)) r.0;
             carried = (r.1, ap answer.Cost (cost ∙ (force_shared t (register_of t (switch_memory t m s setting)) (set_switch B.register s setting) same).cost (at t trial)));

@@ -61,14 +61,14 @@ module _ {K : Type 0} (t : Time K) (d : Draft) (tracks : List (Track K)) (runs :
     pub draft_passed : RecordsListed (draft_memory d tracks runs connections settings) → Passed (draft_rows t (draft_memory d tracks runs connections settings))
     draft_passed listed =
         let m = draft_memory d tracks runs connections settings in
-        ((λ no-lists. no-lists listed), ((λ no_store. no_store st.stored), ((λ no-draft. no-draft ((force_shared t B.register (register_of t m) (same_sym t _ _ st.same)).drafted (st.drafted draft_closed).0)), tt)))
+        ((λ no_lists. no_lists listed), ((λ no_store. no_store st.stored), ((λ no_draft. no_draft ((force_shared t B.register (register_of t m) (same_sym t _ _ st.same)).drafted (st.drafted draft_closed).0)), tt)))
 
     -- the rows of the list in front of the call's own
     pub fronts_pass : (l : Sizes) → AllListed l → (own : List Row) → Passed own → Passed (drafting t l B own)
-    fronts_pass l listed own p = ((λ e. false≢true (sym draft_closed ∙ e)), ((λ no-lists. no-lists listed), p))
+    fronts_pass l listed own p = ((λ e. false≢true (sym draft_closed ∙ e)), ((λ no_lists. no_lists listed), p))
 
     pub fronts_first : (l : Sizes) → AllListed l → (own : List Row) (n p : ℕ) → First own n p → First (drafting t l B own) n p
-    fronts_first l listed own n p f = inr ((λ e. false≢true (sym draft_closed ∙ e)), inr ((λ no-lists. no-lists listed), f))
+    fronts_first l listed own n p f = inr ((λ e. false≢true (sym draft_closed ∙ e)), inr ((λ no_lists. no_lists listed), f))
 
     -- the draft with other records stands for the books with another register
     pub draft_stands : (d' : Draft) (tracks' : List (Track K)) (runs' : List (Run K)) (connections' : List (Connection K)) (settings' : List ℕ) (R : Register K) → d'.number ≡ d.number → Stored t (draft_memory d' tracks' runs' connections' settings') → Same t (register_of t (draft_memory d' tracks' runs' connections' settings')) R → Drafted t R → ((r : ℕ) → r < length B.register.runs → r < length R.runs) → Stands t (with_register B R) (state (stage.Draft d') tracks' runs' connections' settings' times slips)

@@ -46,10 +46,10 @@ length_map : {X Y : Type 0} (f : X → Y) (xs : List X) → length (map f xs) �
 length_map f [] = refl
 length_map f (x ∷ xs) = ap suc (length_map f xs)
 
-pub get_d_map : (xs : List (Option Slip)) (i : ℕ) → get_or (map is_some xs) i false ≡ is_some (get_or xs i None)
-get_d_map [] i = refl
-get_d_map (x ∷ xs) zero = refl
-get_d_map (x ∷ xs) (suc i) = get_d_map xs i
+pub get_or_map : (xs : List (Option Slip)) (i : ℕ) → get_or (map is_some xs) i false ≡ is_some (get_or xs i None)
+get_or_map [] i = refl
+get_or_map (x ∷ xs) zero = refl
+get_or_map (x ∷ xs) (suc i) = get_or_map xs i
 
 some_same : {X : Type 0} {x y : X} → Some x ≡ Some y → x ≡ y
 some_same e = cc
@@ -80,7 +80,7 @@ emptied (x ∷ xs) zero e = ap (λ y. y ∷ xs) (sym e)
 emptied (x ∷ xs) (suc i) e = ap (λ ys. x ∷ ys) (emptied xs i e)
 
 module _ {K : Type 0} (t : Time K) (laws : Laws t) (o : Open) (tracks : List (Track K)) (runs : List (Run K)) (connections : List (Connection K)) (settings : List ℕ) (times : List K) (slips : List (Option Slip))
-    (B : Books K) (st : Stands t B (state (stage.Open o) tracks runs connections settings times slips)) (records : RecordsListed (open_memory o tracks runs connections settings)) (long-times : length times ≡ 1024) (long-slips : length slips ≡ 512)
+    (B : Books K) (st : Stands t B (state (stage.Open o) tracks runs connections settings times slips)) (records : RecordsListed (open_memory o tracks runs connections settings)) (long_times : length times ≡ 1024) (long_slips : length slips ≡ 512)
     (l : Sizes) (listed : AllListed l) (ring ring' : List ℕ) (trial : List K) (w : Lengths) (works : Listed w) (kept : LimitsKept t) where
   abbrev m : Memory K
   m = open_memory o tracks runs connections settings
@@ -89,10 +89,10 @@ module _ {K : Type 0} (t : Time K) (laws : Laws t) (o : Open) (tracks : List (Tr
   was = register_of t m
 
   yes_open : B.opened ≡ true
-  yes_open = opened t laws o tracks runs connections settings times slips B st records long-times
+  yes_open = opened t laws o tracks runs connections settings times slips B st records long_times
 
   off : Passed (open_call_rows t w m times)
-  off = ((λ no-lists. no-lists works), open_passed t laws o tracks runs connections settings times slips B st records long-times)
+  off = ((λ no_lists. no_lists works), open_passed t laws o tracks runs connections settings times slips B st records long_times)
 
   limits : Limits t B.register
   limits = same_limits t was B.register st.same st.stored.limits
@@ -107,7 +107,7 @@ module _ {K : Type 0} (t : Time K) (laws : Laws t) (o : Open) (tracks : List (Tr
   few_runs = st.stored.few_runs
 
   long_books : length B.slips ≡ 512
-  long_books = ap length (sym st.slips) ∙ length_map is_some slips ∙ long-slips
+  long_books = ap length (sym st.slips) ∙ length_map is_some slips ∙ long_slips
 
   stored_by : (R : Register K) (r : ℕ) (until : Option K) → Same t (register_of t (hold_memory t m r until)) R → Limits t R → Stored t (hold_memory t m r until)
   stored_by R r until same good = record { few_tracks = st.stored.few_tracks; few_runs = st.stored.few_runs; few_connections = st.stored.few_connections; limits = same_limits t R (register_of t (hold_memory t m r until)) (same_sym t _ _ same) good }
@@ -135,16 +135,16 @@ module _ {K : Type 0} (t : Time K) (laws : Laws t) (o : Open) (tracks : List (Tr
           | inl q ↦ (
               let P : ℕ → Type 0 = λ k. (get_or (set B.slips r (is_some slot)) k false ≡ true → Given (run_at t (hold t B.register r until).runs k).hold) × (Given (run_at t (hold t B.register r until).runs k).hold → get_or (set B.slips r (is_some slot)) k false ≡ true) in
               let slot_is = get_or-set_same B.slips r (is_some slot) false (omega arith) in
-              let hold-is = ap (λ y. y.hold) (get_or-set_same B.register.runs r (holding (run_at t B.register.runs r) until) (run_at t [] 0) (omega arith)) in
+              let hold_is = ap (λ y. y.hold) (get_or-set_same B.register.runs r (holding (run_at t B.register.runs r) until) (run_at t [] 0) (omega arith)) in
               let G : Option K → Type 0 = Given in
-              subst P (sym q) ((λ e. subst G (sym hold-is) (both.0 (sym slot_is ∙ e))), (λ given. slot_is ∙ both.1 (subst G hold-is given))))
+              subst P (sym q) ((λ e. subst G (sym hold_is) (both.0 (sym slot_is ∙ e))), (λ given. slot_is ∙ both.1 (subst G hold_is given))))
           | inr ne ↦ (
               let inside : i < length B.register.runs = omega (arith, length-set B.register.runs r (holding (run_at t B.register.runs r) until)) in
               let old = st.held yes_open i inside in
               let slot_is = get_or-set_other B.slips r i (is_some slot) false ne in
-              let hold-is = ap (λ y. y.hold) (get_or-set_other B.register.runs r i (holding (run_at t B.register.runs r) until) (run_at t [] 0) ne) in
+              let hold_is = ap (λ y. y.hold) (get_or-set_other B.register.runs r i (holding (run_at t B.register.runs r) until) (run_at t [] 0) ne) in
               let G : Option K → Type 0 = Given in
-              ((λ e. subst G (sym hold-is) (old.0 (sym slot_is ∙ e))), (λ given. slot_is ∙ old.1 (subst G hold-is given))))
+              ((λ e. subst G (sym hold_is) (old.0 (sym slot_is ∙ e))), (λ given. slot_is ∙ old.1 (subst G hold_is given))))
         ];
         own = λ i x e. (
             let long = length-set B.register.runs r (holding (run_at t B.register.runs r) until) in
@@ -168,14 +168,14 @@ module _ {K : Type 0} (t : Time K) (laws : Laws t) (o : Open) (tracks : List (Tr
       let good = (kept.steps B.register limits).holding r until (((rows_shared t was B.register st.same).hold r until).passed fine) in
       let base = slot_stands r (Some until) (Some s) times' inside good res.1 ((λ _. tt), (λ _. refl)) (λ x e. (let q = some_same e in (ap (λ y. y.plan) (sym q) ∙ mine.0 ∙ st.number, ap (λ y. y.run) (sym q) ∙ mine.1))) in
       let P : List (Run K) → Type 0 = λ rs. Stands t (taken t B (call.Hold r until)) (state (stage.Open o) tracks rs connections settings times' (set slips r (Some s))) in
-      (record { answers = fronts_pass t laws o tracks runs connections settings times slips B st records long-times l listed ring ring' trial (hold_rows t B.register r until ++ ring_rows t (hold t B.register r (Some until))) res.0; carried = refl; named = tt }, subst P (sym written) base)
+      (record { answers = fronts_pass t laws o tracks runs connections settings times slips B st records long_times l listed ring ring' trial (hold_rows t B.register r until ++ ring_rows t (hold t B.register r (Some until))) res.0; carried = refl; named = tt }, subst P (sym written) base)
 
   module _ (r : ℕ) (s : Slip) (slot : get_or slips r None ≡ Some s) where
     mine : (s.plan ≡ B.number) × (s.run ≡ r) × (r < length B.register.runs)
     mine = st.own r s slot
 
     full : get_or B.slips r false ≡ true
-    full = ap (λ bs. get_or bs r false) (sym st.slips) ∙ get_d_map slips r ∙ ap is_some slot
+    full = ap (λ bs. get_or bs r false) (sym st.slips) ∙ get_or_map slips r ∙ ap is_some slot
 
     inside : r < o.runs
     inside = let z = long_runs in let h = mine.2 in omega arith
@@ -202,10 +202,10 @@ module _ {K : Type 0} (t : Time K) (laws : Laws t) (o : Open) (tracks : List (Tr
         subst P (sym mine.1) (held_same r None inside)
 
     passes_on : Passed (ring_rows t (hold t B.register r None)) → Passed (call_rows t l B (call.Release r))
-    passes_on p = ((λ e. false≢true (sym e ∙ yes_open)), ((λ e. false≢true (sym e ∙ full)), ((λ no-lists. no-lists listed), p)))
+    passes_on p = ((λ e. false≢true (sym e ∙ yes_open)), ((λ e. false≢true (sym e ∙ full)), ((λ no_lists. no_lists listed), p)))
 
     first_on : (n p : ℕ) → First (ring_rows t (hold t B.register r None)) n p → First (call_rows t l B (call.Release r)) n p
-    first_on n p f = inr ((λ e. false≢true (sym e ∙ yes_open)), inr ((λ e. false≢true (sym e ∙ full)), inr ((λ no-lists. no-lists listed), f)))
+    first_on n p f = inr ((λ e. false≢true (sym e ∙ yes_open)), inr ((λ e. false≢true (sym e ∙ full)), inr ((λ no_lists. no_lists listed), f)))
 
     pub release_step : (times' : List K) (runs' : List (Run K)) → Reckons t (open_call_rows t w m times ++ release_rows t was o.number s.plan s.run) (register_of t (hold_memory t m s.run None)) times times' ring ring' (took (Unit {0}) tt) → runs' ≡ (hold_memory t m s.run None).runs → Told t l B (call.Release r) (Ok answer.Done) ring' trial × Stands t (taken t B (call.Release r)) (state (stage.Open o) tracks runs' connections settings times' (set slips r None))
     release_step times' runs' k written =
@@ -223,7 +223,7 @@ module _ {K : Type 0} (t : Time K) (laws : Laws t) (o : Open) (tracks : List (Tr
   -- no slip at hand
   pub release_misused : (r : ℕ) → get_or slips r None ≡ None → Told t l B (call.Release r) (Err fault.Misuse) ring' trial
   release_misused r e = record {
-    answers = inr ((λ c. false≢true (sym c ∙ yes_open)), inl (ap (λ bs. get_or bs r false) (sym st.slips) ∙ get_d_map slips r ∙ ap is_some e, refl, refl));
+    answers = inr ((λ c. false≢true (sym c ∙ yes_open)), inl (ap (λ bs. get_or bs r false) (sym st.slips) ∙ get_or_map slips r ∙ ap is_some e, refl, refl));
     carried = tt;
     named = tt;
   }
@@ -233,14 +233,14 @@ module _ {K : Type 0} (t : Time K) (laws : Laws t) (o : Open) (tracks : List (Tr
   hold_again r until s slot f (inl time) =
       let z = (mine r s slot).2 in
       let P : PlanFault → Type 0 = λ x. Told t l B (call.Hold r until) (Err (fault.Plan x)) ring' trial in
-      subst P (sym time.1) (record { answers = fronts_first t laws o tracks runs connections settings times slips B st records long-times l listed ring ring' trial (hold_rows t B.register r until ++ ring_rows t (hold t B.register r (Some until))) 4 0 (inr ((λ past. omega arith), inl (time.0, refl, refl))); carried = tt; named = tt })
+      subst P (sym time.1) (record { answers = fronts_first t laws o tracks runs connections settings times slips B st records long_times l listed ring ring' trial (hold_rows t B.register r until ++ ring_rows t (hold t B.register r (Some until))) 4 0 (inr ((λ past. omega arith), inl (time.0, refl, refl))); carried = tt; named = tt })
   hold_again r until s slot f (inr held) =
       let z = (mine r s slot).2 in
       let P : PlanFault → Type 0 = λ x. Told t l B (call.Hold r until) (Err (fault.Plan x)) ring' trial in
-      subst P (sym held.1) (record { answers = fronts_first t laws o tracks runs connections settings times slips B st records long-times l listed ring ring' trial (hold_rows t B.register r until ++ ring_rows t (hold t B.register r (Some until))) 8 0 (inr ((λ past. omega arith), inr (held.0, inl ((st.held yes_open r z).0 (full r s slot), refl, refl)))); carried = tt; named = tt })
+      subst P (sym held.1) (record { answers = fronts_first t laws o tracks runs connections settings times slips B st records long_times l listed ring ring' trial (hold_rows t B.register r until ++ ring_rows t (hold t B.register r (Some until))) 8 0 (inr ((λ past. omega arith), inr (held.0, inl ((st.held yes_open r z).0 (full r s slot), refl, refl)))); carried = tt; named = tt })
 
   pub hold_refused : (r : ℕ) (until : K) (f : PlanFault) (times' : List K) → Reckons t (open_call_rows t w m times ++ hold_rows t was r until) (register_of t (hold_memory t m r (Some until))) times times' ring ring' (failed Slip f) → Told t l B (call.Hold r until) (Err (fault.Plan f)) ring' trial
   hold_refused r until f times' k =
       let a = long_was in
       let res = reckoned_refused t (open_call_rows t w m times) (hold_rows t was r until) (hold_rows t B.register r until) (register_of t (hold_memory t m r (Some until))) (hold t B.register r (Some until)) off (hold_match t was B.register st.same r until) (λ fine. held_same r (Some until) (let known = (hold_passed t was r until fine).known in omega arith)) times times' ring ring' (hold_under t was r until) Slip f k in
-      record { answers = fronts_first t laws o tracks runs connections settings times slips B st records long-times l listed ring ring' trial (hold_rows t B.register r until ++ ring_rows t (hold t B.register r (Some until))) _ _ res.0; carried = tt; named = res.1 }
+      record { answers = fronts_first t laws o tracks runs connections settings times slips B st records long_times l listed ring ring' trial (hold_rows t B.register r until ++ ring_rows t (hold t B.register r (Some until))) _ _ res.0; carried = tt; named = res.1 }

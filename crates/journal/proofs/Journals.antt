@@ -13,7 +13,7 @@ use Rattle.plan.specs.Drafting.{blank}
 use Rattle.plan.specs.Calls.{Lengths, lengths}
 use Rattle.journal.specs.declared.calls.Plan.TheVariants as stage
 use Rattle.journal.specs.Books.{Books, after, registered, new}
-use Rattle.journal.proofs.Holds.{get_d_map}
+use Rattle.journal.proofs.Holds.{get_or_map}
 use Rattle.journal.specs.Rows.{Sizes, sizes}
 use Rattle.journal.specs.Promise.{Told, ToldAll, State, Stands, Step, Steps, state, call_of}
 
@@ -90,5 +90,5 @@ new_stands t number slots tracks runs connections settings times slips none =
       shows = λ e. absurd (false≢true e);
       slips = none;
       held = λ e. absurd (false≢true e);
-      own = λ r x e. absurd (false≢true (sym (none_at slots r) ∙ ap (λ bs. get_or bs r false) (sym none) ∙ get_d_map slips r ∙ ap is_some e));
+      own = λ r x e. absurd (false≢true (sym (none_at slots r) ∙ ap (λ bs. get_or bs r false) (sym none) ∙ get_or_map slips r ∙ ap is_some e));
     }

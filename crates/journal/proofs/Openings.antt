@@ -33,7 +33,7 @@ module _ {K : Type 0} (t : Time K) (d : Draft) (tracks : List (Track K)) (runs :
     (B : Books K) (st : Stands t B (state (stage.Draft d) tracks runs connections settings times slips)) (l : Sizes) (listed : AllListed l) (records : RecordsListed (draft_memory d tracks runs connections settings))
     (w : Lengths) (works : Listed w) (times' : List K) (ring ring' : List ℕ) (trial : List K) where
   off : Passed (opening_rows t w (draft_memory d tracks runs connections settings))
-  off = ((λ no-lists. no-lists works), draft_passed t d tracks runs connections settings times slips B st records)
+  off = ((λ no_lists. no_lists works), draft_passed t d tracks runs connections settings times slips B st records)
 
   closed : B.opened ≡ false
   closed = draft_closed t d tracks runs connections settings times slips B st
@@ -49,14 +49,14 @@ module _ {K : Type 0} (t : Time K) (d : Draft) (tracks : List (Track K)) (runs :
   open_taken o is k =
       let r = reckoned_taken t (opening_rows t w (draft_memory d tracks runs connections settings)) [] [] (register_of t (draft_memory d tracks runs connections settings)) B.register off tt (λ _. st.same) times times' ring ring' Open o k in
       let like : Open = record { number = d.number; tracks = d.tracks; runs = d.runs; connections = d.connections } in
-      let same-open : like ≡ o = same_plan (sym is.0) (sym is.1) (sym is.2) (sym is.3) in
+      let same_open : like ≡ o = same_plan (sym is.0) (sym is.1) (sym is.2) (sym is.3) in
       let P : Open → Type 0 = λ x. Stands t (taken t B call.Open) (state (stage.Open x) tracks runs connections settings times' slips) in (
         record {
           answers = fronts_pass t d tracks runs connections settings times slips B st l listed (ring_rows t B.register) r.0;
           carried = refl;
           named = tt;
         },
-        subst P same-open (record {
+        subst P same_open (record {
           number = st.number;
           opened = refl;
           stored = st.stored;

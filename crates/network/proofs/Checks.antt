@@ -39,18 +39,18 @@ module _ {K : Type 0} (t : Time K) where
   pub checked : (h : Handed K) → Passed (first_rows t h) → Checked t h
   checked h p =
       let long = stable (length h.floors) 1024 p.0 in
-      let long-arcs = stable (length h.arcs) 9728 p.1.0 in
+      let long_arcs = stable (length h.arcs) 9728 p.1.0 in
       let strays = p.1.1.1.1.1.1.0 in
       let floors = p.1.1.1.1.1.1.1.0 in
       let durations = p.1.1.1.1.1.1.1.1.0 in
       let few = not_over h.events 1024 p.1.1.1.1.1.1.1.1.1.0 in
       let few_arcs = not_over h.arc_count 9728 p.1.1.1.1.1.1.1.1.1.1.0 in
       let kept : length (take h.events h.floors) ≡ h.events = length-take-le h.events h.floors (omega arith) in
-      let kept-arcs : length (take h.arc_count h.arcs) ≡ h.arc_count = length-take-le h.arc_count h.arcs (omega arith) in
+      let kept_arcs : length (take h.arc_count h.arcs) ≡ h.arc_count = length-take-le h.arc_count h.arcs (omega arith) in
       let d : Arc K = record { from = 0; to = 0; duration = t.none } in
       record {
         floors_long = long;
-        arcs_long = long-arcs;
+        arcs_long = long_arcs;
         times_long = stable _ _ p.1.1.0;
         ring_long = stable _ _ p.1.1.1.0;
         tables_long = stable _ _ p.1.1.1.1.0;

@@ -29,7 +29,7 @@ module _ {K : Type 0} {t : Time K} (arcs : List (Arc K)) (n : ℕ) where
     back = λ v h. inl (ap (λ xs. get_or xs v 0) e ∙ get_or-replicate n v 65535 0 h);
   }
 
-  module _ (seen path : List ℕ) (i u : ℕ) (few : n ≤ 1024) (long : length seen ≡ n) (in-u : u < n) (fresh : get_or seen u 0 ≡ 65535) (low : i ≤ length path) (small : i ≤ n) (m : Marks t arcs n seen path i) where
+  module _ (seen path : List ℕ) (i u : ℕ) (few : n ≤ 1024) (long : length seen ≡ n) (in_u : u < n) (fresh : get_or seen u 0 ≡ 65535) (low : i ≤ length path) (small : i ≤ n) (m : Marks t arcs n seen path i) where
     other_mark : (j : ℕ) → j < i → (arc_at t arcs (get_or path j 0)).to ≡ u → ⊥
     other_mark j h e = let p = m.mark j h in let q = ap (λ v. get_or seen v 0) e in omega arith
 
@@ -42,7 +42,7 @@ module _ {K : Type 0} {t : Time K} (arcs : List (Arc K)) (n : ℕ) where
         let a : Apart (ends t (placed t arcs) (take i path)) = apart_by (λ v. get_or seen v 0) 0 (ends t (placed t arcs) (take i path)) (λ j h. let l : j < i = omega arith in ap (λ v. get_or seen v 0) (at_j j l) ∙ m.mark j l ∙ (omega arith)) in
         let l : Lacks u (ends t (placed t arcs) (take i path)) = lacks_other (λ v. get_or seen v 0) u (ends t (placed t arcs) (take i path)) (λ j h e. let l : j < i = omega arith in let p = m.mark j l in let q = ap (λ v. get_or seen v 0) (at_j j l) in omega arith) in
         let b : AllByRecursion (λ v. v < n) (ends t (placed t arcs) (take i path)) = All-from_get_or (λ v. v < n) (ends t (placed t arcs) (take i path)) 0 (λ j h. let l : j < i = omega arith in rw (at_j j l) (m.inside j l)) in
-        let p = pigeon n (u ∷ ends t (placed t arcs) (take i path)) (l, a) (in-u, b) in
+        let p = pigeon n (u ∷ ends t (placed t arcs) (take i path)) (l, a) (in_u, b) in
         omega arith
 
     module _ (f : ℕ) (in_path : i < length path) (end : (arc_at t arcs f).to ≡ u) where
@@ -58,7 +58,7 @@ module _ {K : Type 0} {t : Time K} (arcs : List (Arc K)) (n : ℕ) where
 
       pub marks_more : Marks t arcs n (set seen u i) (set path i f) (i + 1)
       marks_more = record {
-        inside = below_more _ _ (λ j h. rw (old_place j h) (m.inside j h)) (rw (new_place, end) in-u);
+        inside = below_more _ _ (λ j h. rw (old_place j h) (m.inside j h)) (rw (new_place, end) in_u);
         mark = below_more _ _
             (λ j h. rw (old_place j h) (get_or-set_other seen u _ i 0 (other_mark j h) ∙ m.mark j h))
             (rw (new_place, end) (get_or-set_same seen u i 0 (omega arith)));

@@ -26,7 +26,7 @@ levels_more floors k m rows ys e l before here =
     below_more _ _ (λ j h. rw (row_before (length floors) k j m rows ys h l) (before j h)) (rw (row_here (length floors) k m rows ys e l) here)
 
 pub rising : {K : Type 0} {t : Time K} (floors : List K) {arcs : List (Arc K)} (k m v : ℕ) (rows ys : List ℕ) → length ys ≡ length floors → k * length floors ≤ length rows → k + 1 ≡ length floors → Levels t floors arcs k rows → Level t floors arcs k ys → v < length ys → (get_or ys v 0 ≡ 65535 → ⊥) → Rising t floors arcs (put_mid (k * length floors) m rows ys) v
-rising floors k m v rows ys e l last before here in-v up =
+rising floors k m v rows ys e l last before here in_v up =
     let all = levels_more floors k m rows ys e l before here in
     let is_last : length floors - 1 ≡ k = omega arith in
     record {

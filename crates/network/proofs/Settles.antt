@@ -8,7 +8,7 @@ use Rattle.network.proofs.Order.{upto_refl}
 use Rattle.network.proofs.Walks.{latest_more}
 
 module _ {K : Type 0} {t : Time K} (laws : Laws t) (floors : List K) (arcs : List (Arc K)) (sound : Sound t (length floors) arcs) (sized : Sized t 110000000 floors) (few : length floors ≤ 1024) where
-  module _ (k : ℕ) (old new : List K) (row : List ℕ) (in-k : k < length floors) (l : Latest t floors arcs k old) (r : Round t arcs (length arcs) old new row) (quiet : (v : ℕ) → v < length floors → get_or row v 0 ≡ 65535) where
+  module _ (k : ℕ) (old new : List K) (row : List ℕ) (in_k : k < length floors) (l : Latest t floors arcs k old) (r : Round t arcs (length arcs) old new row) (quiet : (v : ℕ) → v < length floors → get_or row v 0 ≡ 65535) where
     still_by : (v : ℕ) (x : K) (f : ℕ) → f ≡ 65535 → Source t arcs (length arcs) old v x f → x ≡ at t old v
     still_by v x f e (inl p) = p.1
     still_by v x f e (inr p) = let q = sound.few in absurd (omega (arith, p.0))

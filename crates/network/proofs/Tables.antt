@@ -10,26 +10,26 @@ use Rattle.network.proofs.Pigeons.{pigeon}
 module _ {K : Type 0} {t : Time K} (laws : Laws t) (N : Network K) (fit : Fit t N.events N.arcs) (few : N.events ≤ 1024) where
   -- along a chain a table that meets the network is not passed
   chain_met : (time : ℕ → K) → Table t N time → Meets t N time → (x : K) (u v : ℕ) (ks : List N.arcs.Name) → t.size x ≤ 250000000 → UpTo t x (time u) → u < N.events → length ks ≤ 1024 → Chain t N.arcs u ks v → UpTo t (along t N.arcs x ks) (time v)
-  chain_met time small m x u v [] size-x up in-u h c = rw (sym c) up
-  chain_met time small m x u v (k ∷ ks) size-x up in-u h c =
+  chain_met time small m x u v [] size_x up in_u h c = rw (sym c) up
+  chain_met time small m x u v (k ∷ ks) size_x up in_u h c =
       let w = (N.arcs.arc k).from in
-      let below = chain_met time small m x u w ks size-x up in-u (omega arith) c.2 in
-      let size-y = grows laws N.events N.arcs fit x 250000000 u ks w c.2 size-x (omega arith) in
-      let size-w = small w (fit.starts k c.0) in
-      let size-d = fit.short k c.0 in
+      let below = chain_met time small m x u w ks size_x up in_u (omega arith) c.2 in
+      let size_y = grows laws N.events N.arcs fit x 250000000 u ks w c.2 size_x (omega arith) in
+      let size_w = small w (fit.starts k c.0) in
+      let size_d = fit.short k c.0 in
       rw (sym c.1) (laws.trans _ _ _ (laws.mono_left _ _ _ (omega arith) (omega arith) below) (m.arcs k c.0))
 
   pub no_ring : (time : ℕ → K) → Table t N time → Meets t N time → (ks : List N.arcs.Name) → Ring t N.arcs ks → ⊥
   no_ring time small m [] r = both_ways _ r.after (upto_refl laws t.none)
   no_ring time small m (k ∷ ks) r =
       let u = r.event in
-      let in-u = starts_inside laws N.events N.arcs fit u u (k ∷ ks) r.closed (omega arith) in
+      let in_u = starts_inside laws N.events N.arcs fit u u (k ∷ ks) r.closed (omega arith) in
       let el = length_ends t N.arcs (k ∷ ks) in
       let short : length (k ∷ ks) ≤ N.events = (let p = pigeon N.events (ends t N.arcs (k ∷ ks)) r.apart (ends_inside laws N.events N.arcs fit u u (k ∷ ks) r.closed) in omega arith) in
-      let size-u : t.size (time u) ≤ 250000000 = small u in-u in
-      let low = chain_met time small m (time u) u u (k ∷ ks) size-u (upto_refl laws _) in-u (omega arith) r.closed in
-      let joined = along_join laws N.events N.arcs fit (time u) 250000000 u (k ∷ ks) u r.closed size-u (omega arith) in
-      let size-t = grows laws N.events N.arcs fit t.none 100000 u (k ∷ ks) u r.closed laws.none_size (omega arith) in
+      let size_u : t.size (time u) ≤ 250000000 = small u in_u in
+      let low = chain_met time small m (time u) u u (k ∷ ks) size_u (upto_refl laws _) in_u (omega arith) r.closed in
+      let joined = along_join laws N.events N.arcs fit (time u) 250000000 u (k ∷ ks) u r.closed size_u (omega arith) in
+      let size_t = grows laws N.events N.arcs fit t.none 100000 u (k ∷ ks) u r.closed laws.none_size (omega arith) in
       let up = laws.later (time u) (along t N.arcs t.none (k ∷ ks)) (omega arith) r.after in
       both_ways _ up (rw joined at low)
 
@@ -43,16 +43,16 @@ module _ {K : Type 0} {t : Time K} (laws : Laws t) (N : Network K) (fit : Fit t 
     module _ (time : ℕ → K) (l : ℕ) (few_arcs : l ≤ 1024) (small : Table t N time) (m : Meets t N time) (w : LatestWalks t N l time) where
       -- the last arc of the walk that attains a time
       last_arc : (u v : ℕ) (ks : List N.arcs.Name) → u < N.events → length ks ≤ l → Chain t N.arcs u ks v → time v ≡ along t N.arcs (N.floor u) ks → (time v ≡ N.floor v) ⊎ ((k : N.arcs.Name) × N.arcs.Has k × ((N.arcs.arc k).to ≡ v) × (time v ≡ t.join (time (N.arcs.arc k).from) (N.arcs.arc k).duration))
-      last_arc u v [] in-u h c e = inl (e ∙ ap N.floor c)
-      last_arc u v (k ∷ ks) in-u h c e =
+      last_arc u v [] in_u h c e = inl (e ∙ ap N.floor c)
+      last_arc u v (k ∷ ks) in_u h c e =
           let from = (N.arcs.arc k).from in
           let d = (N.arcs.arc k).duration in
           let y = along t N.arcs (N.floor u) ks in
-          let up = w.latest from (length ks) y (omega arith) (record { first = u; walk = ks; inside = in-u; chain = c.2; count = refl; value = refl }) in
-          let size-u = sized u in-u in
-          let size-y = grows laws N.events N.arcs fit (N.floor u) 110000000 u ks from c.2 size-u (omega arith) in
-          let size-f = small from (fit.starts k c.0) in
-          let size-d = fit.short k c.0 in
+          let up = w.latest from (length ks) y (omega arith) (record { first = u; walk = ks; inside = in_u; chain = c.2; count = refl; value = refl }) in
+          let size_u = sized u in_u in
+          let size_y = grows laws N.events N.arcs fit (N.floor u) 110000000 u ks from c.2 size_u (omega arith) in
+          let size_f = small from (fit.starts k c.0) in
+          let size_d = fit.short k c.0 in
           let more = laws.mono_left y (time from) d (omega arith) (omega arith) up in
           let down : UpTo t (t.join (time from) d) (time v) = rw (sym c.1) (m.arcs k c.0) in
           inr (k, c.0, c.1, laws.antisym _ _ (rw e more) down)
@@ -72,7 +72,7 @@ module _ {K : Type 0} {t : Time K} (laws : Laws t) (N : Network K) (fit : Fit t 
       least_is e = record {
         table = small;
         meets = m;
-        least = λ other small-other met-other v h. (let r = w.reached v h in let j = r.1 in met other small-other met-other r.0 v (time v) (omega arith) r.2);
+        least = λ other small_other met_other v h. (let r = w.reached v h in let j = r.1 in met other small_other met_other r.0 v (time v) (omega arith) r.2);
         walks = rw (sym e) w;
         equations = solves;
       }

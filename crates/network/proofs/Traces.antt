@@ -106,10 +106,10 @@ module _ {K : Type 0} {t : Time K} (laws : Laws t) (floors : List K) (arcs : Lis
           let in_start = sound.starts f up.0 in
           let still : at t under.new (arc_at t arcs f).from ≡ at t under.old (arc_at t arcs f).from = same_by under.old (arc_at t arcs f).from _ _ quiet (under.round.source (arc_at t arcs f).from (let q = under.is_old.same in omega arith)) in
           let joint : at t lev.old (arc_at t arcs f).from ≡ at t under.new (arc_at t arcs f).from = unique k lev.old under.new lev.is_old (rw e at under.is_new) (arc_at t arcs f).from in_start in
-          let joint-u : at t lev.old u ≡ at t under.new u = unique k lev.old under.new lev.is_old (rw e at under.is_new) u tr.inside in
+          let joint_u : at t lev.old u ≡ at t under.new u = unique k lev.old under.new lev.is_old (rw e at under.is_new) u tr.inside in
           let met = under.round.meets f up.0 in
           let value : at t lev.new u ≡ t.join (at t under.old (arc_at t arcs f).from) (arc_at t arcs f).duration = up.2 ∙ ap (λ z. t.join z (arc_at t arcs f).duration) (joint ∙ still) in
-          let low : UpTo t (at t lev.new u) (at t lev.old u) = rw (value, joint-u, ← up.1) met in
+          let low : UpTo t (at t lev.new u) (at t lev.old u) = rw (value, joint_u, ← up.1) met in
           both_ways _ up.3 low
 
       pub traced_more : Traced t floors arcs rows (set path i f) v (i + 1) (arc_at t arcs f).from
@@ -127,7 +127,7 @@ module _ {K : Type 0} {t : Time K} (laws : Laws t) (floors : List K) (arcs : Lis
       }
 
   -- an event that comes twice closes a ring
-  module _ (rows path : List ℕ) (v i u s : ℕ) (tr : Traced t floors arcs rows path v i u) (in-s : s < i) (in_path : i ≤ length path) (again : (arc_at t arcs (get_or path s 0)).to ≡ u) where
+  module _ (rows path : List ℕ) (v i u s : ℕ) (tr : Traced t floors arcs rows path v i u) (in_s : s < i) (in_path : i ≤ length path) (again : (arc_at t arcs (get_or path s 0)).to ≡ u) where
     abbrev ring : List ℕ
     ring = drop s (take i path)
 
@@ -148,7 +148,7 @@ module _ {K : Type 0} {t : Time K} (laws : Laws t) (floors : List K) (arcs : Lis
     back =
         let long : s < length (take i path) = simp length-take (omega arith) in
         let head = drop_more (take i path) s 0 long in
-        let first : get_or (take i path) s 0 ≡ get_or path s 0 = get_or-take i path s 0 in-s in
+        let first : get_or (take i path) s 0 ≡ get_or path s 0 = get_or-take i path s 0 in_s in
         sym (ends_at split.0 (drop s (take i path)) (get_or (take i path) s 0) _ head split.2) ∙ ap (λ k. (arc_at t arcs k).to) first ∙ again
 
     pub closes : Chain t (placed t arcs) u (drop s (take i path)) u
@@ -172,20 +172,20 @@ module _ {K : Type 0} {t : Time K} (laws : Laws t) (floors : List K) (arcs : Lis
         let lv = tr.is_level in
         let y = at t tr.tab u in
         let total = along t (placed t arcs) t.none (drop s (take i path)) in
-        let size-y : t.size y ≤ 110000000 + tr.level * 100000 = latest_size laws floors arcs sound sized tr.level tr.tab tr.is_tab (omega arith) u tr.inside in
+        let size_y : t.size y ≤ 110000000 + tr.level * 100000 = latest_size laws floors arcs sound sized tr.level tr.tab tr.is_tab (omega arith) u tr.inside in
         let long = ring_long in
         let long_rest = rest_long in
         let z = laws.none_size in
-        let size-total : t.size total ≤ 100000 + length (drop s (take i path)) * 100000 = grows laws (length floors) (placed t arcs) fit t.none 100000 u (drop s (take i path)) u closes z (omega arith) in
-        let size-round : t.size (along t (placed t arcs) y (drop s (take i path))) ≤ 110000000 + tr.level * 100000 + length (drop s (take i path)) * 100000 = grows laws (length floors) (placed t arcs) fit y (110000000 + tr.level * 100000) u (drop s (take i path)) u closes size-y (omega arith) in
-        let joined = along_join laws (length floors) (placed t arcs) fit y (110000000 + tr.level * 100000) u (drop s (take i path)) u closes size-y (omega arith) in
+        let size_total : t.size total ≤ 100000 + length (drop s (take i path)) * 100000 = grows laws (length floors) (placed t arcs) fit t.none 100000 u (drop s (take i path)) u closes z (omega arith) in
+        let size_round : t.size (along t (placed t arcs) y (drop s (take i path))) ≤ 110000000 + tr.level * 100000 + length (drop s (take i path)) * 100000 = grows laws (length floors) (placed t arcs) fit y (110000000 + tr.level * 100000) u (drop s (take i path)) u closes size_y (omega arith) in
+        let joined = along_join laws (length floors) (placed t arcs) fit y (110000000 + tr.level * 100000) u (drop s (take i path)) u closes size_y (omega arith) in
         let down = laws.mono_right total t.none y (omega arith) (omega arith) low in
         let unit = laws.none_right y (omega arith) in
         let less : UpTo t (along t (placed t arcs) y (drop s (take i path))) y = rw joined (rw unit at down) in
-        let less-all = along_mono laws (length floors) (placed t arcs) fit (along t (placed t arcs) y (drop s (take i path))) y (110000000 + tr.level * 100000 + length (drop s (take i path)) * 100000) u (take s path) v rest_chain size-round (omega arith) (omega arith) less in
+        let less_all = along_mono laws (length floors) (placed t arcs) fit (along t (placed t arcs) y (drop s (take i path))) y (110000000 + tr.level * 100000 + length (drop s (take i path)) * 100000) u (take s path) v rest_chain size_round (omega arith) (omega arith) less in
         let whole : tr.x ≡ along t (placed t arcs) (along t (placed t arcs) y (drop s (take i path))) (take s path) = tr.value ∙ ap (along t (placed t arcs) y) parts ∙ along_append t (placed t arcs) y (take s path) (drop s (take i path)) in
         let w = tr.is_tab.walks.reached u tr.inside in
-        let j-low = w.1 in
+        let j_low = w.1 in
         let short : Reaches t (network_of t floors arcs) (s + w.0) v (along t (placed t arcs) y (take s path)) = record {
           first = w.2.first;
           walk = take s path ++ w.2.walk;
@@ -194,7 +194,7 @@ module _ {K : Type 0} {t : Time K} (laws : Laws t) (floors : List K) (arcs : Lis
           count = length-append (take s path) w.2.walk ∙ (let q = w.2.count in omega arith);
           value = ap (λ y. along t (placed t arcs) y (take s path)) w.2.value ∙ sym (along_append t (placed t arcs) (at t floors w.2.first) (take s path) w.2.walk);
         } in
-        both_ways _ (tr.beyond (s + w.0) _ (omega arith) short) (rw whole less-all))
+        both_ways _ (tr.beyond (s + w.0) _ (omega arith) short) (rw whole less_all))
 
     pub ring_is : (m : ℕ → ℕ) → ((j : ℕ) → j < i → m (arc_at t arcs (get_or path j 0)).to ≡ j) → Ring t (placed t arcs) (drop s (take i path))
     ring_is m marks = record {
@@ -203,8 +203,8 @@ module _ {K : Type 0} {t : Time K} (laws : Laws t) (floors : List K) (arcs : Lis
       apart = apart_by m s (ends t (placed t arcs) (drop s (take i path))) (λ j h.
           let long = ring_long in
           let el = length_ends t (placed t arcs) (drop s (take i path)) in
-          let in-j : j < length (drop s (take i path)) = omega arith in
+          let in_j : j < length (drop s (take i path)) = omega arith in
           let at_j : get_or (drop s (take i path)) j 0 ≡ get_or path (s + j) 0 = get_or-drop s (take i path) j 0 ∙ get_or-take i path (s + j) 0 (omega arith) in
-          ap m (event_at t arcs (drop s (take i path)) j in-j ∙ ap (λ k. (arc_at t arcs k).to) at_j) ∙ marks (s + j) (omega arith));
+          ap m (event_at t arcs (drop s (take i path)) j in_j ∙ ap (λ k. (arc_at t arcs k).to) at_j) ∙ marks (s + j) (omega arith));
       after = rises_round;
     }

@@ -25,10 +25,10 @@ module _ (xs ys : List ℕ) (first : ℕ) (inside : first < length xs) (same : l
       ]
 
   pub turned_is : {K : Type 0} (t : Time K) (arcs : List (Arc K)) (ks : List ℕ) → xs ≡ reverse (ends t (placed t arcs) ks) → ys ≡ drop first xs ++ take first xs → Turned t arcs ks ys
-  turned_is t arcs ks is-xs is-ys = record {
+  turned_is t arcs ks is_xs is_ys = record {
     front = take first xs;
     back = drop first xs;
-    circuit_is = sym is-xs ∙ sym (take-append-drop first xs);
-    named = is-ys;
+    circuit_is = sym is_xs ∙ sym (take-append-drop first xs);
+    named = is_ys;
     smallest = All-from_get_or (λ v. get_or ys 0 0 ≤ v) ys 0 low_at;
   }

@@ -20,13 +20,13 @@ module _ {K : Type 0} {t : Time K} (laws : Laws t) (floors : List K) (arcs : Lis
       omega arith
 
   pub latest_size : (k : ℕ) (table : List K) → Latest t floors arcs k table → k ≤ 1024 → (v : ℕ) → v < length floors → t.size (at t table v) ≤ 110000000 + k * 100000
-  latest_size k table l h v in-v =
-      let r = l.walks.reached v in-v in
+  latest_size k table l h v in_v =
+      let r = l.walks.reached v in_v in
       let p = reaches_size r.0 v _ r.2 (omega arith) in
       omega arith
 
   pub latest_sized : (k : ℕ) (table : List K) → Latest t floors arcs k table → k ≤ 1024 → Sized t 300000000 table
-  latest_sized k table l h v in-v =
+  latest_sized k table l h v in_v =
       let s = l.same in
       let p = latest_size k table l h v (omega arith) in omega arith
 
@@ -64,16 +64,16 @@ module _ {K : Type 0} {t : Time K} (laws : Laws t) (floors : List K) (arcs : Lis
         (suc w.0, omega (arith, w.1), rw (p.2, ← p.1) (walk_on w.0 f _ p.0 w.2))
 
     walked : (u v : ℕ) (ks : List ℕ) → length ks ≤ k + 1 → u < length floors → v < length floors → Chain t (placed t arcs) u ks v → UpTo t (along t (placed t arcs) (at t floors u) ks) (at t new v)
-    walked u v [] h in-u in-v c =
+    walked u v [] h in_u in_v c =
         let e = l.same in
-        laws.trans _ (at t old v) _ (l.walks.latest v 0 _ (omega arith) (record { first = u; walk = []; inside = in-u; chain = c; count = refl; value = refl })) (r.keeps v (omega arith))
-    walked u v (f ∷ ks) h in-u in-v c =
+        laws.trans _ (at t old v) _ (l.walks.latest v 0 _ (omega arith) (record { first = u; walk = []; inside = in_u; chain = c; count = refl; value = refl })) (r.keeps v (omega arith))
+    walked u v (f ∷ ks) h in_u in_v c =
         let y = along t (placed t arcs) (at t floors u) ks in
-        let w : Reaches t (network_of t floors arcs) (length ks) (arc_at t arcs f).from y = record { first = u; walk = ks; inside = in-u; chain = c.2; count = refl; value = refl } in
+        let w : Reaches t (network_of t floors arcs) (length ks) (arc_at t arcs f).from y = record { first = u; walk = ks; inside = in_u; chain = c.2; count = refl; value = refl } in
         let up = l.walks.latest (arc_at t arcs f).from (length ks) y (omega arith) w in
-        let size-y = reaches_size (length ks) (arc_at t arcs f).from y w (omega arith) in
-        let size-o = latest_size k old l (omega arith) (arc_at t arcs f).from (sound.starts f c.0) in
-        let size-d = sound.short f c.0 in
+        let size_y = reaches_size (length ks) (arc_at t arcs f).from y w (omega arith) in
+        let size_o = latest_size k old l (omega arith) (arc_at t arcs f).from (sound.starts f c.0) in
+        let size_d = sound.short f c.0 in
         let more = laws.mono_left y (at t old (arc_at t arcs f).from) (arc_at t arcs f).duration (omega arith) (omega arith) up in
         rw (sym c.1) (laws.trans _ _ _ more (r.meets f c.0))
 

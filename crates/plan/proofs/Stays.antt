@@ -43,7 +43,7 @@ module _ {K : Type 0} (t : Time K) where
   }
 
   -- one run in the place of another on the same track
-  module _ (m : Memory K) (r : ℕ) (x : Run K) (long : length m.runs ≡ 512) (stored : Stored t m) (inside : r < m.run_count) (same-track : x.track ≡ (run_at t m.runs r).track) where
+  module _ (m : Memory K) (r : ℕ) (x : Run K) (long : length m.runs ≡ 512) (stored : Stored t m) (inside : r < m.run_count) (same_track : x.track ≡ (run_at t m.runs r).track) where
     few : m.run_count ≤ 512
     few = stored.few_runs
 
@@ -62,7 +62,7 @@ module _ {K : Type 0} (t : Time K) where
     pub track_kept : (k : ℕ) → k < m.run_count → track_of_lem t (take m.run_count (set m.runs r x)) k ≡ track_of_lem t (take m.run_count m.runs) k
     track_kept k h =
         elim (cases_eq k r) [
-          | inl e ↦ ap (λ i. track_of_lem t (take m.run_count (set m.runs r x)) i) e ∙ ap (λ y. y.track) run_here ∙ same-track ∙ ap (λ y. y.track) (sym (get_or-take m.run_count m.runs r _ inside)) ∙ ap (λ i. track_of_lem t (take m.run_count m.runs) i) (sym e)
+          | inl e ↦ ap (λ i. track_of_lem t (take m.run_count (set m.runs r x)) i) e ∙ ap (λ y. y.track) run_here ∙ same_track ∙ ap (λ y. y.track) (sym (get_or-take m.run_count m.runs r _ inside)) ∙ ap (λ i. track_of_lem t (take m.run_count m.runs) i) (sym e)
           | inr ne ↦ ap (λ y. y.track) (run_there k h ne)
         ]
 
@@ -74,7 +74,7 @@ module _ {K : Type 0} (t : Time K) where
         let b = o.below in
         let e = long_now in
         let f = long_was in
-        let in-j = o.inside in
+        let in_j = o.inside in
         record {
           below = o.below;
           inside = omega arith;
@@ -102,16 +102,16 @@ module _ {K : Type 0} (t : Time K) where
             tracks = stored.limits.tracks;
             runs = record {
               each = λ k h. (
-                  let in-k : k < m.run_count = omega arith in
+                  let in_k : k < m.run_count = omega arith in
                   elim (cases_eq k r) [
                     | inl q ↦ (let P : Run K → Type 0 = RunStored t (length (take m.track_count m.tracks)) r in let Q : ℕ → Type 0 = λ i. RunStored t (length (take m.track_count m.tracks)) i (run_at t (take m.run_count (set m.runs r x)) i) in subst Q (sym q) (subst P (sym run_here) good))
-                    | inr ne ↦ (let P : Run K → Type 0 = RunStored t (length (take m.track_count m.tracks)) k in subst P (sym (run_there k in-k ne)) (stored.limits.runs.each k (omega arith)))
+                    | inr ne ↦ (let P : Run K → Type 0 = RunStored t (length (take m.track_count m.tracks)) k in subst P (sym (run_there k in_k ne)) (stored.limits.runs.each k (omega arith)))
                   ]);
             };
             connections = let g : length (take m.run_count m.runs) ≡ length (take m.run_count (set m.runs r x)) = f ∙ sym e in let P : ℕ → Type 0 = λ n. ConnectionsStored t n (take m.connection_count m.connections) in subst P g stored.limits.connections;
             orders = λ i j o. (
                 let b = o.below in
-                let in-j = o.inside in
+                let in_j = o.inside in
                 let p = place_same i j b (omega arith) in
                 let z = ap (λ k. get_or m.settings k 0) p in
                 let l = stored.limits.orders i j (ordered_was i j o) in

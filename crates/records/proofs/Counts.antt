@@ -126,9 +126,9 @@ entry_more P xs j v inside below here = below_more (λ k. P k (get_or (set xs j 
     (rw (get_or-set_same xs j v 0 inside) here)
 
 pub laid_more : (f : ℕ → ℕ) (j : ℕ) (cs ss bs : List ℕ) (c s b : ℕ) → j < length cs → j < length ss → j < length bs → Laid f j cs ss bs → c ≡ earlier f j → s ≡ total f j → Previous f (f j) j b → Laid f (j + 1) (set cs j c) (set ss j s) (set bs j b)
-laid_more f j cs ss bs c s b in_c in-s in_b laid is_c is-s is_b = record {
+laid_more f j cs ss bs c s b in_c in_s in_b laid is_c is_s is_b = record {
   counted = entry_more (λ k v. v ≡ earlier f k) cs j c in_c laid.counted is_c;
-  summed = entry_more (λ k v. v ≡ total f k) ss j s in-s laid.summed is-s;
+  summed = entry_more (λ k v. v ≡ total f k) ss j s in_s laid.summed is_s;
   before = entry_more (λ k v. Previous f (f k) k v) bs j b in_b laid.before is_b;
 }
 
@@ -165,10 +165,10 @@ count_back f x p q some on prev =
 
 -- what is laid out finds the byte
 pub laid_place : (f : ℕ → ℕ) (n i j : ℕ) (cs ss bs : List ℕ) → Laid f n cs ss bs → j < n → i < j → f i ≡ f j → (get_or ss j 0 + get_or cs i 0 ≡ place f i j) × (get_or ss j 0 + get_or cs i 0 < total f n)
-laid_place f n i j cs ss bs laid in-j below shared =
+laid_place f n i j cs ss bs laid in_j below shared =
     let c = laid.counted i (omega arith) in
-    let s = laid.summed j in-j in
-    let h = place_below f n i j (record { below = below; inside = in-j; shared = shared }) in (omega arith, omega arith)
+    let s = laid.summed j in_j in
+    let h = place_below f n i j (record { below = below; inside = in_j; shared = shared }) in (omega arith, omega arith)
 
 -- a byte that is written is the byte of one order
 pub one_written : (f : ℕ → ℕ) (n i j k l v : ℕ) (bytes : List ℕ) → Ordered f n i j → Ordered f n k l → total f n ≤ length bytes → ((((k ≡ i) × (l ≡ j)) × (get_or (set bytes (place f i j) v) (place f k l) 0 ≡ v)) ⊎ ((((k ≡ i) × (l ≡ j)) → ⊥) × (get_or (set bytes (place f i j) v) (place f k l) 0 ≡ get_or bytes (place f k l) 0)))

@@ -45,13 +45,13 @@ module _ {K : Type 0} (t : Time K) (m : Memory K) where
   pub empty_agrees : m.track_count ≡ 0 → m.run_count ≡ 0 → m.connection_count ≡ 0 → Same t (register_of t m) empty
   empty_agrees tracks runs connections =
       let no_run : take m.run_count m.runs ≡ [] = ap (λ n. take n m.runs) runs in
-      let no-connection : take m.connection_count m.connections ≡ [] = ap (λ n. take n m.connections) connections in
+      let no_connection : take m.connection_count m.connections ≡ [] = ap (λ n. take n m.connections) connections in
       record {
         tracks = ap (λ n. take n m.tracks) tracks;
         runs = no_run;
-        connections = no-connection;
+        connections = no_connection;
         orders = λ i j o. (let e = ap length no_run in let l = o.inside in absurd (omega arith));
-        links = λ c l. (let e = ap length no-connection in absurd (omega arith));
+        links = λ c l. (let e = ap length no_connection in absurd (omega arith));
       }
 
   -- another run on the same track
@@ -191,7 +191,7 @@ module _ {K : Type 0} (t : Time K) (m : Memory K) where
           let long = long_runs in
           let bytes : List ℕ = cleared m.settings (orders_entered t m) (orders_added t m x.track) in
           let O : List (Run K) → Type 0 = λ rs. (i j : ℕ) → Ordered (track_of_lem t rs) (length rs) i j → get_or bytes (place (track_of_lem t rs) i j) 0 ≡ cond (eqb j (length (take n m.runs))) 0 (get_or m.settings (place (track_of_lem t (take n m.runs)) i j) 0) in
-          let orders-now : O (take n m.runs ++ unused x ∷ []) = λ i j o.
+          let orders_now : O (take n m.runs ++ unused x ∷ []) = λ i j o.
           (let longer = length_push (take n m.runs) (unused x) in
           let b = o.below in
           let l = o.inside in
@@ -208,7 +208,7 @@ module _ {K : Type 0} (t : Time K) (m : Memory K) where
             tracks = refl;
             runs = runs_now;
             connections = refl;
-            orders = subst O (sym runs_now) orders-now;
+            orders = subst O (sym runs_now) orders_now;
             links = λ c l. cleared_above m.settings (orders_entered t m) (orders_added t m x.track) settings_room (4096 + c) (let r = room in omega arith);
           }
 

@@ -83,18 +83,18 @@ module _ {K : Type 0} where
   connects_was : (c : Connection K) (x y : Run K) (a : Arc K) → Later x y → Connects c x a → Connects c y a
   connects_was c x y a l h = joins_was x.departed y.departed _ _ c.time c.time a l.departed refl h
 
-  module _ (k : Track K) (u v : ℕ) (x x-was y y-was : Run K) (a : Arc K) (ahead : Later x x-was) (behind : Later y y-was) where
-    direction_was : x.direction ≡ y.direction → x-was.direction ≡ y-was.direction
+  module _ (k : Track K) (u v : ℕ) (x x_was y y_was : Run K) (a : Arc K) (ahead : Later x x_was) (behind : Later y y_was) where
+    direction_was : x.direction ≡ y.direction → x_was.direction ≡ y_was.direction
     direction_was e = sym ahead.direction ∙ e ∙ behind.direction
 
-    departures_was : Departures k u x v y a → Departures k u x-was v y-was a
-    departures_was h = (direction_was h.0, joins_was y.departed y-was.departed _ _ k.headway k.headway a behind.departed refl h.1)
+    departures_was : Departures k u x v y a → Departures k u x_was v y_was a
+    departures_was h = (direction_was h.0, joins_was y.departed y_was.departed _ _ k.headway k.headway a behind.departed refl h.1)
 
-    arrivals_was : Arrivals k u x v y a → Arrivals k u x-was v y-was a
-    arrivals_was h = (direction_was h.0, joins_was y.arrived y-was.arrived _ _ k.headway k.headway a behind.arrived refl h.1)
+    arrivals_was : Arrivals k u x v y a → Arrivals k u x_was v y_was a
+    arrivals_was h = (direction_was h.0, joins_was y.arrived y_was.arrived _ _ k.headway k.headway a behind.arrived refl h.1)
 
-    meeting_was : Meeting k u x v y a → Meeting k u x-was v y-was a
-    meeting_was h = ((λ e. h.0 (ahead.direction ∙ e ∙ sym behind.direction)), joins_was y.departed y-was.departed _ _ k.meeting k.meeting a behind.departed refl h.1)
+    meeting_was : Meeting k u x v y a → Meeting k u x_was v y_was a
+    meeting_was h = ((λ e. h.0 (ahead.direction ∙ e ∙ sym behind.direction)), joins_was y.departed y_was.departed _ _ k.meeting k.meeting a behind.departed refl h.1)
 
 module _ {K : Type 0} (t : Time K) (R : Register K) where
   -- run r is later

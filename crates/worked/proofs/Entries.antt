@@ -72,7 +72,7 @@ module _ {K : Type 0} (t : Time K) where
     run_by x h =
         let each = each_true (run_tests x) h in
         let rest = each.1.1.1 in
-        let on-track = ltb-true _ _ rest.0 in
+        let on_track = ltb-true _ _ rest.0 in
         let departs = leb-true _ _ rest.1.0 in
         let arrives = leb-true _ _ rest.1.1.0 in
         let room = ltb-true _ _ rest.1.1.1.0 in

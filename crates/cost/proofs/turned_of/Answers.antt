@@ -42,10 +42,10 @@ loop-past-preserved g c =
     let j = c.args.j in
     let past = c.loop-past.past in
     let i = past - 1 in
-    let in-i : i < length c.args.v.runs.now = omega (arith, c.loop-past.invariant.1, c.loop-past-test.true, c.requires.inside) in
+    let in_i : i < length c.args.v.runs.now = omega (arith, c.loop-past.invariant.1, c.loop-past-test.true, c.requires.inside) in
     let shared : f i ≡ f j = c.loop-past.invariant.2 c.loop-past-test.true in
-    let prev = previous_of f (length c.args.v.runs.now) (f j) i _ _ _ c.requires.laid in-i shared in
-    let counted = c.requires.laid.counted i in-i in
+    let prev = previous_of f (length c.args.v.runs.now) (f j) i _ _ _ c.requires.laid in_i shared in
+    let counted = c.requires.laid.counted i in_i in
     let summed = c.requires.laid.summed j c.requires.inside in
     let at : get_or c.args.sums.now j 0 + get_or c.args.counts.now i 0 ≡ place f i j = omega arith in
     let byte = ap (λ (k : ℕ). get_or c.args.v.settings.now k 0) at in
@@ -62,8 +62,8 @@ loop-past-preserved g c =
 pub loop-past-smaller : goal.loop-past-smaller
 loop-past-smaller g c =
     let i = c.loop-past.past - 1 in
-    let in-i : i < length c.args.v.runs.now = omega (arith, c.loop-past.invariant.1, c.loop-past-test.true, c.requires.inside) in
-    let prev = c.requires.laid.before i in-i in omega (arith, prev.within, c.loop-past-test.true)
+    let in_i : i < length c.args.v.runs.now = omega (arith, c.loop-past.invariant.1, c.loop-past-test.true, c.requires.inside) in
+    let prev = c.requires.laid.before i in_i in omega (arith, prev.within, c.loop-past-test.true)
 
 pub returns : goal.returns
 returns g c =

@@ -9,10 +9,10 @@ pub loop-j-preserved : goal.loop-j-preserved
 loop-j-preserved g c =
     let j = c.loop-j.j in
     let in_path : j < length c.args.path.now = omega arith in
-    let in-ring : j < length c.loop-j.ring = omega arith in
+    let in_ring : j < length c.loop-j.ring = omega arith in
     below_more _ _
     (λ k h. get_or-set_other c.loop-j.ring j k _ 0 (λ e. omega arith) ∙ c.loop-j.invariant k h)
-    (get_or-set_same c.loop-j.ring j _ 0 in-ring ∙ ap (λ a. a.to) (get_or_default c.args.arcs.now (get_or c.args.path.now j 0) _ _ (c.requires.known j in_path)))
+    (get_or-set_same c.loop-j.ring j _ 0 in_ring ∙ ap (λ a. a.to) (get_or_default c.args.arcs.now (get_or c.args.path.now j 0) _ _ (c.requires.known j in_path)))
 
 pub returns : goal.returns
 returns g c =

@@ -14,7 +14,7 @@ returns g c =
     let xs = c.list_ends.new.ring in
     let ys = c.rotate_left.new.self in
     let long : length xs ≡ n = omega (arith, c.list_ends.auto.ring) in
-    let long-ys : length ys ≡ n = omega (arith, c.rotate_left.ensures.len) in
+    let long_ys : length ys ≡ n = omega (arith, c.rotate_left.ensures.len) in
     let turned = turned_is xs ys c.smallest-first.result c.smallest-first.ensures.0 c.rotate_left.ensures.len c.smallest-first.ensures.1 (λ k h. c.rotate_left.ensures.by_index.0 k 0 h) (λ k h l. c.rotate_left.ensures.by_index.1 k 0 h l) t arcs path c.list_ends.ensures c.rotate_left.ensures.after in
     let P : List ℕ → Type 0 = λ es. Turned t arcs path es in
     record {

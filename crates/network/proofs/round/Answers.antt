@@ -6,10 +6,14 @@ use Rattle.network.proofs.round.Goals as goal
 use Rattle.network.proofs.round.Goals.{then-not-compare, else-not-compare, In-Some}
 
 pub offset_bounds-old-arc : goal.offset_bounds-old-arc
-offset_bounds-old-arc g c = let h = arc_starts c.args.old.now c.requires.sound c.loop-i-test.true c.index-arcs-i.is in omega arith
+offset_bounds-old-arc g c =
+    let starts = arc_starts c.args.old.now c.requires.sound c.loop-i-test.true c.index-arcs-i.is in
+    let ends = arc_ends c.args.old.now c.requires.sound c.loop-i-test.true c.index-arcs-i.is in omega arith
 
 pub bounds-old-arc : goal.bounds-old-arc
-bounds-old-arc g c = arc_starts c.args.old.now c.requires.sound c.loop-i-test.true c.index-arcs-i.is
+bounds-old-arc g c =
+    let starts = arc_starts c.args.old.now c.requires.sound c.loop-i-test.true c.index-arcs-i.is in
+    let ends = arc_ends c.args.old.now c.requires.sound c.loop-i-test.true c.index-arcs-i.is in omega arith
 
 pub offset_bounds-new-end : goal.offset_bounds-new-end
 offset_bounds-new-end g c = let h = arc_ends c.args.old.now c.requires.sound c.loop-i-test.true c.index-arcs-i.is in search rules
@@ -28,7 +32,9 @@ bounds-from-end g c = let h = arc_ends c.args.old.now c.requires.sound c.loop-i-
 
 pub unreachable-requires : goal.unreachable-requires
 unreachable-requires g c =
-    none_not _ _ (arc_fits c.args.old.now c.requires.sound c.loop-i-test.true c.index-arcs-i.is c.index-old-arc.is c.requires.sized) c.in-None.ensures
+    let starts = arc_starts c.args.old.now c.requires.sound c.loop-i-test.true c.index-arcs-i.is in
+    let ends = arc_ends c.args.old.now c.requires.sound c.loop-i-test.true c.index-arcs-i.is in
+    none_not _ _ (arc_fits c.args.old.now c.requires.sound c.loop-i-test.true c.index-arcs-i.is c.index-old-arc.is (omega arith) c.requires.sized) c.in-None.ensures
 
 pub loop-i-preserved : goal.loop-i-preserved
 loop-i-preserved g c =
@@ -38,11 +44,11 @@ loop-i-preserved g c =
     let turn = c.loop-i-test.true in
     let end : c.index-arcs-i.result.to ≡ (arc_at g.K.Kind.time c.args.arcs.now i).to = ap (λ a. a.to) (arc_is old c.requires.sound turn c.index-arcs-i.is) in
     let inside = arc_ends old c.requires.sound turn c.index-arcs-i.is in
-    let in-new : c.index-arcs-i.result.to < length c.loop-i.new = omega arith in
-    let in-from : c.index-arcs-i.result.to < length c.loop-i.from = omega arith in
+    let in_new : c.index-arcs-i.result.to < length c.loop-i.new = omega arith in
+    let in_from : c.index-arcs-i.result.to < length c.loop-i.from = omega arith in
     let brought = brings old c.requires.sound turn c.index-arcs-i.is c.index-old-arc.is c.in-Some.ensures in
-    let there = get_or_read _ _ _ in-new c.index-new-end.is g.K.Kind.time.none in
+    let there = get_or_read _ _ _ in_new c.index-new-end.is g.K.Kind.time.none in
     elim c.if-not-compare.branch [
-      | then-not-compare w ↦ rw (w.new-is, w.from-is) (round_takes laws c.args.arcs.now i old c.loop-i.new c.loop-i.from c.index-arcs-i.result.to c.in-Some.x end brought inside in-new in-from (cc) c.loop-i.invariant)
+      | then-not-compare w ↦ rw (w.new-is, w.from-is) (round_takes laws c.args.arcs.now i old c.loop-i.new c.loop-i.from c.index-arcs-i.result.to c.in-Some.x end brought inside in_new in_from (cc) c.loop-i.invariant)
       | else-not-compare w ↦ rw (w.new-is, w.from-is) (round_keeps laws c.args.arcs.now i old c.loop-i.new c.loop-i.from c.loop-i.invariant (cc))
     ]

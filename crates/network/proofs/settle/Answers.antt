@@ -32,8 +32,8 @@ returns-in-None g c =
     let h = row_ends k n n c.loop-k-test.true in
     let part : length (take (k * n + n - k * n) (drop (k * n) c.loop-k.rows)) ≡ n = simp (length-take, length-drop) (omega arith) in
     let long : length c.round.new.from ≡ n = c.round.auto.from ∙ part in
-    let long-new : length c.round.new.new ≡ n = omega (arith, c.round.auto.new) in
-    settles laws _ _ c.requires.sound c.requires.sized c.requires.few k _ c.round.new.new c.round.new.from c.loop-k-test.true c.loop-k.invariant.0 c.round.ensures (λ v in-v. c.in-None.ensures v (omega arith))
+    let long_new : length c.round.new.new ≡ n = omega (arith, c.round.auto.new) in
+    settles laws _ _ c.requires.sound c.requires.sized c.requires.few k _ c.round.new.new c.round.new.from c.loop-k-test.true c.loop-k.invariant.0 c.round.ensures (λ v in_v. c.in-None.ensures v (omega arith))
 
 pub returns-then-k-n : goal.returns-then-k-n
 returns-then-k-n g c =
@@ -43,8 +43,8 @@ returns-then-k-n g c =
     let h = row_ends k n n c.loop-k-test.true in
     let part : length (take (k * n + n - k * n) (drop (k * n) c.loop-k.rows)) ≡ n = simp (length-take, length-drop) (omega arith) in
     let long : length c.round.new.from ≡ n = c.round.auto.from ∙ part in
-    let long-new : length c.round.new.new ≡ n = omega (arith, c.round.auto.new) in
-    let next = latest_more laws _ _ c.requires.sound c.requires.sized k _ c.round.new.new c.round.new.from (omega arith) c.loop-k.invariant.0 c.round.ensures long-new in
+    let long_new : length c.round.new.new ≡ n = omega (arith, c.round.auto.new) in
+    let next = latest_more laws _ _ c.requires.sound c.requires.sized k _ c.round.new.new c.round.new.from (omega arith) c.loop-k.invariant.0 c.round.ensures long_new in
     let level : Level g.K.Kind.time c.args.floors.now c.args.arcs.now k c.round.new.from = record { old = c.loop-k.times; new = c.round.new.new; is_old = c.loop-k.invariant.0; is_new = next; round = c.round.ensures } in
     rising c.args.floors.now k (k * n + n - k * n) c.in-Some.v c.loop-k.rows c.round.new.from long (omega arith) c.if-k-n.true c.loop-k.invariant.1 level c.in-Some.ensures.0 c.in-Some.ensures.1
 
@@ -56,8 +56,8 @@ loop-k-preserved g c =
     let h = row_ends k n n c.loop-k-test.true in
     let part : length (take (k * n + n - k * n) (drop (k * n) c.loop-k.rows)) ≡ n = simp (length-take, length-drop) (omega arith) in
     let long : length c.round.new.from ≡ n = c.round.auto.from ∙ part in
-    let long-new : length c.round.new.new ≡ n = omega (arith, c.round.auto.new) in
-    let next = latest_more laws _ _ c.requires.sound c.requires.sized k _ c.round.new.new c.round.new.from (omega arith) c.loop-k.invariant.0 c.round.ensures long-new in
+    let long_new : length c.round.new.new ≡ n = omega (arith, c.round.auto.new) in
+    let next = latest_more laws _ _ c.requires.sound c.requires.sized k _ c.round.new.new c.round.new.from (omega arith) c.loop-k.invariant.0 c.round.ensures long_new in
     let level : Level g.K.Kind.time c.args.floors.now c.args.arcs.now k c.round.new.from = record { old = c.loop-k.times; new = c.round.new.new; is_old = c.loop-k.invariant.0; is_new = next; round = c.round.ensures } in
     let levels = levels_more c.args.floors.now k (k * n + n - k * n) c.loop-k.rows c.round.new.from long (omega arith) c.loop-k.invariant.1 level in
     (rw c.copy_from_slice-in-loop-k.ensures.after next, levels, λ _. omega arith)

@@ -34,15 +34,15 @@ add_order-m-requires g c =
     let f = track_in g.K.Kind.time (all_of g.K.Kind.time (seen c.args.v)) in
     let past = c.loop-past.past in
     let j = c.args.j in
-    let in-i : past - 1 < length c.args.v.runs.now = omega (arith, c.loop-past.invariant.1, c.loop-past-test.true, c.requires.inside) in
+    let in_i : past - 1 < length c.args.v.runs.now = omega (arith, c.loop-past.invariant.1, c.loop-past-test.true, c.requires.inside) in
     let shared = c.loop-past.invariant.2 c.loop-past-test.true in
     let h = laid_place f (length c.args.v.runs.now) (past - 1) j _ _ _ c.requires.laid c.requires.inside (omega (arith, c.loop-past.invariant.1, c.loop-past-test.true)) shared in
-    let prev = previous_of f (length c.args.v.runs.now) (f j) (past - 1) _ _ _ c.requires.laid in-i shared in
+    let prev = previous_of f (length c.args.v.runs.now) (f j) (past - 1) _ _ _ c.requires.laid in_i shared in
     let passed = count_back f (f j) past _ c.loop-past-test.true shared prev in
     let order = c.requires.limits.0.orders (past - 1) j (record { below = omega (arith, c.loop-past.invariant.1, c.loop-past-test.true); inside = c.requires.inside; shared = shared }) in
     let P : ℕ → Type 0 = λ k. get_or c.args.v.settings.now k 0 ≤ 1 in
     let flag = subst P (sym h.0) order in
-    record { few = (omega (arith, in-i, c.requires.limits.0.few_runs), (omega (arith, c.requires.inside, c.requires.limits.0.few_runs), (flag, omega (arith, passed, c.requires.room, c.loop-past.invariant.3, c.loop-past.auto.arcs, c.requires.long.0)))) }
+    record { few = (omega (arith, in_i, c.requires.limits.0.few_runs), (omega (arith, c.requires.inside, c.requires.limits.0.few_runs), (flag, omega (arith, passed, c.requires.room, c.loop-past.invariant.3, c.loop-past.auto.arcs, c.requires.long.0)))) }
 
 pub loop-past-preserved : goal.loop-past-preserved
 loop-past-preserved g c =
@@ -52,12 +52,12 @@ loop-past-preserved g c =
     let j = c.args.j in
     let past = c.loop-past.past in
     let i = past - 1 in
-    let in-i : i < length c.args.v.runs.now = omega (arith, c.loop-past.invariant.1, c.loop-past-test.true, c.requires.inside) in
+    let in_i : i < length c.args.v.runs.now = omega (arith, c.loop-past.invariant.1, c.loop-past-test.true, c.requires.inside) in
     let shared : f i ≡ f j = c.loop-past.invariant.2 c.loop-past-test.true in
-    let prev = previous_of f (length c.args.v.runs.now) (f j) i _ _ _ c.requires.laid in-i shared in
+    let prev = previous_of f (length c.args.v.runs.now) (f j) i _ _ _ c.requires.laid in_i shared in
     let q = get_or c.args.befores.now i 0 in
     let passed = count_back f (f j) past q c.loop-past-test.true shared prev in
-    let counted = c.requires.laid.counted i in-i in
+    let counted = c.requires.laid.counted i in_i in
     let summed = c.requires.laid.summed j c.requires.inside in
     let at : get_or c.args.sums.now j 0 + get_or c.args.counts.now i 0 ≡ place f i j = omega arith in
     let byte = ap (λ (k : ℕ). get_or c.args.v.settings.now k 0) at in
@@ -72,8 +72,8 @@ pub loop-past-smaller : goal.loop-past-smaller
 loop-past-smaller g c =
     let f = track_in g.K.Kind.time (all_of g.K.Kind.time (seen c.args.v)) in
     let i = c.loop-past.past - 1 in
-    let in-i : i < length c.args.v.runs.now = omega (arith, c.loop-past.invariant.1, c.loop-past-test.true, c.requires.inside) in
-    let prev = c.requires.laid.before i in-i in omega (arith, prev.within, c.loop-past-test.true)
+    let in_i : i < length c.args.v.runs.now = omega (arith, c.loop-past.invariant.1, c.loop-past-test.true, c.requires.inside) in
+    let prev = c.requires.laid.before i in_i in omega (arith, prev.within, c.loop-past-test.true)
 
 pub returns : goal.returns
 returns g c =

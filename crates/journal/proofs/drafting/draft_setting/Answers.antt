@@ -19,7 +19,7 @@ returns-in-Ok g c =
     let own = passed_back (draft_rows t m) (switch_rows t (register_of t m) a.switch) c.in-Ok.ensures.rows in
     λ l times slips ring trial listed B st. (
       record {
-        answers = ((λ no-lists. no-lists listed), ((rows_shared t (register_of t m) B.register st.same).switch a.switch).passed own);
+        answers = ((λ no_lists. no_lists listed), ((rows_shared t (register_of t m) B.register st.same).switch a.switch).passed own);
         carried = ap answer.Setting (c.in-Ok.ensures.reads ∙ setting_same t (register_of t m) B.register st.same a.switch own);
         named = tt;
       },
@@ -34,7 +34,7 @@ returns-in-Err g c =
     λ l times slips ring trial listed B st. (
     let own = first_behind (draft_rows t m) (switch_rows t (register_of t m) a.switch) _ _ (draft_passed t a.draft.now a.tracks.now a.runs.now a.connections.now a.settings.now times slips B st c.requires) c.in-Err.ensures.rows in (
       record {
-        answers = inr ((λ no-lists. no-lists listed), ((rows_shared t (register_of t m) B.register st.same).switch a.switch).first _ _ own);
+        answers = inr ((λ no_lists. no_lists listed), ((rows_shared t (register_of t m) B.register st.same).switch a.switch).first _ _ own);
         carried = tt;
         named = none_told t B.register ring (switch_rows t (register_of t m) a.switch) (switch_under t (register_of t m) a.switch) c.in-Err.fault own;
       },

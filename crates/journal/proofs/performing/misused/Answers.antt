@@ -3,7 +3,7 @@ use Rattle.std.proofs.lemmas.Bool.{false≢true}
 use Rattle.network.specs.Refusals.{First}
 use Rattle.journal.specs.declared.calls.Call.{Call}
 use Rattle.journal.specs.Rows.{call_rows}
-use Rattle.journal.proofs.Holds.{get_d_map}
+use Rattle.journal.proofs.Holds.{get_or_map}
 use Rattle.journal.proofs.performing.misused.Goals as goal
 
 not_true : (b : Bool) → not b ≡ true → b ≡ false
@@ -20,7 +20,7 @@ returns-then-is_open g c = λ l B eo es unlisted.
     let r = c.in-Release.run' in
     let kept = c.kept_slip.result in
     let P : Call g.row.K.Denot → Type 0 = λ k. (not kept ≡ true → First (call_rows t l B k) 0 0) × (not kept ≡ false → First (call_rows t l B k) 1 0) in
-    let slot : get_or B.slips r false ≡ kept = ap (λ bs. get_or bs r false) (sym es) ∙ get_d_map c.args.slips.now r ∙ sym c.kept_slip.ensures in
+    let slot : get_or B.slips r false ≡ kept = ap (λ bs. get_or bs r false) (sym es) ∙ get_or_map c.args.slips.now r ∙ sym c.kept_slip.ensures in
     let yes_open : B.opened ≡ true = sym eo ∙ c.if-is_open.true in
     subst P (sym c.in-Release.is) (
       (λ none. inr ((λ closed. false≢true (sym closed ∙ yes_open)), inl (slot ∙ not_true kept none, refl, refl))),

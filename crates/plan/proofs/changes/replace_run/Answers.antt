@@ -27,8 +27,8 @@ pub returns-in-Ok : goal.returns-in-Ok
 returns-in-Ok g c =
     let t = g.K.Kind.time in
     let a = c.args in
-    let now-runs = set a.runs.now a.r a.run in
-    let is : seen c.open_view.result ≡ open_memory a.plan.now a.tracks.now now-runs a.connections.now a.settings.now = c.open_view.ensures ∙ ap (λ runs. open_memory a.plan.now a.tracks.now runs a.connections.now a.settings.now) c.put_run.ensures in
+    let now_runs = set a.runs.now a.r a.run in
+    let is : seen c.open_view.result ≡ open_memory a.plan.now a.tracks.now now_runs a.connections.now a.settings.now = c.open_view.ensures ∙ ap (λ runs. open_memory a.plan.now a.tracks.now runs a.connections.now a.settings.now) c.put_run.ensures in
     let P : Memory g.row.K.Denot → Type 0 = λ m. TimesAfter t (register_of t m) a.times.now c.reckon_plan.new.times (Ok tt) in
     let Q : Memory g.row.K.Denot → Type 0 = λ m. RingAfter t (register_of t m) a.ring.now c.reckon_plan.new.ring (Ok tt) in
     record {
@@ -41,8 +41,8 @@ pub returns-in-Err : goal.returns-in-Err
 returns-in-Err g c =
     let t = g.K.Kind.time in
     let a = c.args in
-    let now-runs = set a.runs.now a.r a.run in
-    let is : seen c.open_view.result ≡ open_memory a.plan.now a.tracks.now now-runs a.connections.now a.settings.now = c.open_view.ensures ∙ ap (λ runs. open_memory a.plan.now a.tracks.now runs a.connections.now a.settings.now) c.put_run.ensures in
+    let now_runs = set a.runs.now a.r a.run in
+    let is : seen c.open_view.result ≡ open_memory a.plan.now a.tracks.now now_runs a.connections.now a.settings.now = c.open_view.ensures ∙ ap (λ runs. open_memory a.plan.now a.tracks.now runs a.connections.now a.settings.now) c.put_run.ensures in
     let P : Memory g.row.K.Denot → Type 0 = λ m. TimesAfter t (register_of t m) a.times.now c.reckon_plan.new.times (Err c.in-Err.fault) in
     let Q : Memory g.row.K.Denot → Type 0 = λ m. RingAfter t (register_of t m) a.ring.now c.reckon_plan.new.ring (Err c.in-Err.fault) in
     record {

@@ -50,7 +50,7 @@ delay_cost-cost-requires g c =
     let a = c.args in
     let m = open_memory a.plan.now a.tracks.now a.runs.now a.connections.now (set a.settings.now a.place a.setting) in
     let is : seen c.open_view.result ≡ m = c.open_view.ensures ∙ ap (open_memory a.plan.now a.tracks.now a.runs.now a.connections.now) c.bytes.ensures in
-    let is-2 : seen c.open_view-2.result ≡ m = c.open_view-2.ensures ∙ ap (open_memory a.plan.now a.tracks.now a.runs.now a.connections.now) c.bytes-2.ensures in
+    let is_2 : seen c.open_view-2.result ≡ m = c.open_view-2.ensures ∙ ap (open_memory a.plan.now a.tracks.now a.runs.now a.connections.now) c.bytes-2.ensures in
     let P : Memory g.row.K.Denot → Type 0 = Stored t in
     let Q : Memory g.row.K.Denot → Type 0 = λ x. TimesAfter t (register_of t x) a.trial.now c.reckon_plan.new.times (Ok tt) in
     let least = (subst Q is c.in_ok-reckon_plan.ensures.times).0 in
@@ -62,10 +62,10 @@ delay_cost-cost-requires g c =
     let S : ℕ → Type 0 = λ n. Shown t c.reckon_plan.new.times (2 * n) in
     let shown : Shown t c.reckon_plan.new.times (2 * a.plan.now.runs) = record { each = λ v h. least_small t (register_of t m) c.requires.stored.limits g.met.K.Kind.laws (at t c.reckon_plan.new.times) least v (omega arith) } in
     record {
-      stored = subst P (sym is-2) c.requires.stored;
-      lengths = (ap (λ x. length x.tracks) is-2 ∙ r.tracks, (ap (λ x. length x.runs) is-2 ∙ r.runs, (ap (λ x. length x.connections) is-2 ∙ r.connections, (ap (λ x. length x.settings) is-2 ∙ length-set a.settings.now a.place a.setting ∙ r.settings, c.reckon_plan.auto.times ∙ l.times))));
+      stored = subst P (sym is_2) c.requires.stored;
+      lengths = (ap (λ x. length x.tracks) is_2 ∙ r.tracks, (ap (λ x. length x.runs) is_2 ∙ r.runs, (ap (λ x. length x.connections) is_2 ∙ r.connections, (ap (λ x. length x.settings) is_2 ∙ length-set a.settings.now a.place a.setting ∙ r.settings, c.reckon_plan.auto.times ∙ l.times))));
       long = (c.reckon_plan.auto.counts ∙ l.counts, (c.reckon_plan.auto.sums ∙ l.sums, c.reckon_plan.auto.befores ∙ l.befores));
-      shown = subst S (sym (ap (λ x. x.run_count) is-2)) shown;
+      shown = subst S (sym (ap (λ x. x.run_count) is_2)) shown;
     }
 
 pub returns : goal.returns
@@ -74,13 +74,13 @@ returns g c =
     let a = c.args in
     let m = open_memory a.plan.now a.tracks.now a.runs.now a.connections.now (set a.settings.now a.place a.setting) in
     let is : seen c.open_view.result ≡ m = c.open_view.ensures ∙ ap (open_memory a.plan.now a.tracks.now a.runs.now a.connections.now) c.bytes.ensures in
-    let is-2 : seen c.open_view-2.result ≡ m = c.open_view-2.ensures ∙ ap (open_memory a.plan.now a.tracks.now a.runs.now a.connections.now) c.bytes-2.ensures in
+    let is_2 : seen c.open_view-2.result ≡ m = c.open_view-2.ensures ∙ ap (open_memory a.plan.now a.tracks.now a.runs.now a.connections.now) c.bytes-2.ensures in
     let told = c.in_ok-reckon_plan.ensures in
     let P : Memory g.row.K.Denot → Type 0 = λ x. TimesAfter t (register_of t x) a.trial.now c.reckon_plan.new.times (Ok tt) in
     let Q : Memory g.row.K.Denot → Type 0 = λ x. RingAfter t (register_of t x) a.ring.now c.reckon_plan.new.ring (Ok tt) in
     record {
       times = subst P is told.times;
       ring = subst Q is told.ring;
-      cost = c.delay_cost-cost.ensures ∙ ap (λ x. delay_cost_lem t (register_of t x) (at t c.reckon_plan.new.times)) is-2;
+      cost = c.delay_cost-cost.ensures ∙ ap (λ x. delay_cost_lem t (register_of t x) (at t c.reckon_plan.new.times)) is_2;
       settings = c.drop-switched-2.ensures ∙ set-set a.settings.now a.place a.setting _ ∙ set-get_or a.settings.now a.place 0;
     }

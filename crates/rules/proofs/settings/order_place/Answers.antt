@@ -19,8 +19,8 @@ count_orders-requires g c =
     let cut = c.split_at-2.ensures in
     record {
       few = omega (arith, cut.front_len, c.requires.ordered.inside, c.requires.limits.few_runs);
-      tracks = λ k h. (let in-j : k < c.args.j = omega (arith, cut.front_len) in
-          let same : track_of_lem g.K.Kind.time c.split_at-2.result.0.now k ≡ track_of_lem g.K.Kind.time c.args.v.runs.now k = ap (λ r. r.track) (cut.by_index.1 k _ in-j) in
+      tracks = λ k h. (let in_j : k < c.args.j = omega (arith, cut.front_len) in
+          let same : track_of_lem g.K.Kind.time c.split_at-2.result.0.now k ≡ track_of_lem g.K.Kind.time c.args.v.runs.now k = ap (λ r. r.track) (cut.by_index.1 k _ in_j) in
           let on = (c.requires.limits.runs.each k (omega (arith, c.requires.ordered.inside))).0.1.0 in omega (arith, c.requires.limits.few_tracks));
     }
 
