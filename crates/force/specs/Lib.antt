@@ -3,3 +3,4 @@ pub mod Floors
 pub mod Constraints
 pub mod Added
 pub mod Reckoned
+pub mod Work

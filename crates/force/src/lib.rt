@@ -4,7 +4,9 @@
 mod arcs;
 mod floors;
 mod plan;
+mod work;
 
 pub use arcs::fill_arcs;
 pub use floors::fill_floors;
-pub use plan::reckon_plan;
+pub use plan::{reckon_plan, reckon_within};
+pub use work::Work;

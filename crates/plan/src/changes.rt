@@ -14,13 +14,13 @@ use network::{Arc, NetworkFault};
 use records::{Connection, Run, Track, View, run_of};
 
 /// The memories of an open plan, to be read.
-pub(crate) fn open_view<'t, 'r, 'c, 's, K: Kind>(
+pub(crate) fn open_view<'v, K: Kind>(
     plan: &Open,
-    tracks: &'t [Track<K>],
-    runs: &'r [Run<K>],
-    connections: &'c [Connection<K>],
-    settings: &'s [u8],
-) -> View<'t, 'r, 'c, 's, K>
+    tracks: &'v [Track<K>],
+    runs: &'v [Run<K>],
+    connections: &'v [Connection<K>],
+    settings: &'v [u8],
+) -> View<'v, K>
     ensures { seen result ≡ open_memory plan.now tracks.now runs.now connections.now settings.now }
 {
     View {

@@ -16,13 +16,13 @@ use rules::{
 };
 
 /// The memories of a draft, to be read.
-pub(crate) fn draft_view<'t, 'r, 'c, 's, K: Kind>(
+pub(crate) fn draft_view<'v, K: Kind>(
     draft: &Draft,
-    tracks: &'t [Track<K>],
-    runs: &'r [Run<K>],
-    connections: &'c [Connection<K>],
-    settings: &'s [u8],
-) -> View<'t, 'r, 'c, 's, K>
+    tracks: &'v [Track<K>],
+    runs: &'v [Run<K>],
+    connections: &'v [Connection<K>],
+    settings: &'v [u8],
+) -> View<'v, K>
     ensures { seen result ≡ draft_memory draft.now tracks.now runs.now connections.now settings.now }
 {
     View {

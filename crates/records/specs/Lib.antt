@@ -2,3 +2,4 @@ pub mod Records
 pub mod Places
 pub mod Register
 pub mod Stored
+pub mod Lent

@@ -8,9 +8,11 @@ ghost use Rattle.records.specs.Register.{seen, front};
 
 use kinds::Kind;
 
+mod lent;
 mod places;
 mod stored;
 
+pub use lent::{Records, RecordsMut};
 pub use places::{count_orders, lay_out};
 pub use stored::{check_drafted, check_shown, check_stored};
 
@@ -51,11 +53,11 @@ pub struct Connection<K> {
 /// The memories of a plan, to be read: records, settings (4,096 bytes of orders, then 512 of connections), and how many records
 /// are entered.
 #[derive(Clone, Copy)]
-pub struct View<'t, 'r, 'c, 's, K> {
-    pub tracks: &'t [Track<K>],
-    pub runs: &'r [Run<K>],
-    pub connections: &'c [Connection<K>],
-    pub settings: &'s [u8],
+pub struct View<'v, K> {
+    pub tracks: &'v [Track<K>],
+    pub runs: &'v [Run<K>],
+    pub connections: &'v [Connection<K>],
+    pub settings: &'v [u8],
     pub track_count: usize,
     pub run_count: usize,
     pub connection_count: usize,
@@ -86,7 +88,7 @@ pub fn connection_of<K: Kind>(connections: &[Connection<K>], i: usize) -> Connec
 }
 
 /// The view of what is entered alone.
-pub fn entered<'t, 'r, 'c, 's, K: Kind>(v: View<'t, 'r, 'c, 's, K>) -> View<'t, 'r, 'c, 's, K>
+pub fn entered<'v, K: Kind>(v: View<'v, K>) -> View<'v, K>
     requires { (v.track_count ≤ length v.tracks.now) × ((v.run_count ≤ length v.runs.now) × (v.connection_count ≤ length v.connections.now)) }
     ensures { seen result ≡ front (seen v.entry) }
 {

@@ -1,0 +1,28 @@
+-- What lent memories of records and settings hold, and which of them are lent. Assumes nothing.
+use Rattle.std.specs.Prelude.{◌≡◌, ℕ, List}
+use Rattle.records.specs.declared.Run.{Run}
+use Rattle.records.specs.declared.Track.{Track}
+use Rattle.records.specs.declared.Connection.{Connection}
+use Rattle.records.specs.declared.lent.Records.{Records}
+use Rattle.records.specs.declared.lent.RecordsMut.{RecordsMut}
+
+-- Whole lists of records, and the bytes of the settings.
+pub record Lists (K : Type 0) : Type 0 where
+  pub tracks : List (Track K)
+  pub runs : List (Run K)
+  pub connections : List (Connection K)
+  pub settings : List ℕ
+
+module _ {K : Type 0} where
+  abbrev pub lists_in : Records K → Lists K
+  lists_in m = record { tracks = m.tracks.now; runs = m.runs.now; connections = m.connections.now; settings = m.settings.now }
+
+  abbrev pub lists_mut : RecordsMut K → Lists K
+  lists_mut m = record { tracks = m.tracks.now; runs = m.runs.now; connections = m.connections.now; settings = m.settings.now }
+
+  -- the same memories are lent after a call as before it
+  pub record SameRecords (m m' : RecordsMut K) : Type 0 where
+    pub tracks : m'.tracks.ghost_name ≡ m.tracks.ghost_name
+    pub runs : m'.runs.ghost_name ≡ m.runs.ghost_name
+    pub connections : m'.connections.ghost_name ≡ m.connections.ghost_name
+    pub settings : m'.settings.ghost_name ≡ m.settings.ghost_name

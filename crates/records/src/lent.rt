@@ -1,0 +1,38 @@
+//! The memories of a plan's records and settings, as they are lent to a call.
+ghost use Rattle.std.specs.Prelude.{◌≡◌};
+ghost use Rattle.records.specs.Lent.{lists_in, lists_mut};
+
+use crate::{Connection, Run, Track};
+use kinds::Kind;
+
+/// The memories of a plan's records and settings, lent to be read: 64 tracks, 512 runs, 512 connections, and 4,608 bytes of settings.
+#[derive(Clone, Copy)]
+pub struct Records<'m, K> {
+    pub tracks: &'m [Track<K>],
+    pub runs: &'m [Run<K>],
+    pub connections: &'m [Connection<K>],
+    pub settings: &'m [u8],
+}
+
+/// The same memories, lent to be written.
+#[derive(Drop)]
+pub struct RecordsMut<'m, K> {
+    pub tracks: &'m mut [Track<K>],
+    pub runs: &'m mut [Run<K>],
+    pub connections: &'m mut [Connection<K>],
+    pub settings: &'m mut [u8],
+}
+
+impl<K: Kind> RecordsMut<'_, K> {
+    /// The memories, to be read.
+    pub fn lent(&self) -> Records<'_, K>
+        ensures { lists_in result ≡ lists_mut self.now }
+    {
+        Records {
+            tracks: self.tracks,
+            runs: self.runs,
+            connections: self.connections,
+            settings: self.settings,
+        }
+    }
+}
