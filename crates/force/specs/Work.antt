@@ -2,23 +2,45 @@
 use Rattle.std.specs.Prelude.{◌≡◌, ℕ, length}
 use Rattle.force.specs.declared.work.Work.{Work}
 
-module _ {K : Type 0} where
-  -- each memory has its listed length
-  pub record WorkListed (w : Work K) : Type 0 where
-    pub counts : length w.counts.now ≡ 512
-    pub sums : length w.sums.now ≡ 512
-    pub befores : length w.befores.now ≡ 512
-    pub floors : length w.floors.now ≡ 1024
-    pub arcs : length w.arcs.now ≡ 9728
-    pub tables : length w.tables.now ≡ 2048
-    pub marks : length w.marks.now ≡ 1050624
+-- how long the working memories are
+pub record WorkLengths : Type 0 where
+  pub counts : ℕ
+  pub sums : ℕ
+  pub befores : ℕ
+  pub floors : ℕ
+  pub arcs : ℕ
+  pub tables : ℕ
+  pub marks : ℕ
 
-  -- the same memories are lent after a call as before it, each as long as it was
+-- each has its listed length
+pub record WorkListed (l : WorkLengths) : Type 0 where
+  pub counts : l.counts ≡ 512
+  pub sums : l.sums ≡ 512
+  pub befores : l.befores ≡ 512
+  pub floors : l.floors ≡ 1024
+  pub arcs : l.arcs ≡ 9728
+  pub tables : l.tables ≡ 2048
+  pub marks : l.marks ≡ 1050624
+
+module _ {K : Type 0} where
+  abbrev pub work_lengths : Work K → WorkLengths
+  work_lengths w = record {
+    counts = length w.counts.now;
+    sums = length w.sums.now;
+    befores = length w.befores.now;
+    floors = length w.floors.now;
+    arcs = length w.arcs.now;
+    tables = length w.tables.now;
+    marks = length w.marks.now;
+  }
+
+  -- the same memories are lent after a call as before it, as long as they were
   pub record SameWork (w w' : Work K) : Type 0 where
-    pub counts : (w'.counts.ghost_name ≡ w.counts.ghost_name) × (length w'.counts.now ≡ length w.counts.now)
-    pub sums : (w'.sums.ghost_name ≡ w.sums.ghost_name) × (length w'.sums.now ≡ length w.sums.now)
-    pub befores : (w'.befores.ghost_name ≡ w.befores.ghost_name) × (length w'.befores.now ≡ length w.befores.now)
-    pub floors : (w'.floors.ghost_name ≡ w.floors.ghost_name) × (length w'.floors.now ≡ length w.floors.now)
-    pub arcs : (w'.arcs.ghost_name ≡ w.arcs.ghost_name) × (length w'.arcs.now ≡ length w.arcs.now)
-    pub tables : (w'.tables.ghost_name ≡ w.tables.ghost_name) × (length w'.tables.now ≡ length w.tables.now)
-    pub marks : (w'.marks.ghost_name ≡ w.marks.ghost_name) × (length w'.marks.now ≡ length w.marks.now)
+    pub counts : w'.counts.ghost_name ≡ w.counts.ghost_name
+    pub sums : w'.sums.ghost_name ≡ w.sums.ghost_name
+    pub befores : w'.befores.ghost_name ≡ w.befores.ghost_name
+    pub floors : w'.floors.ghost_name ≡ w.floors.ghost_name
+    pub arcs : w'.arcs.ghost_name ≡ w.arcs.ghost_name
+    pub tables : w'.tables.ghost_name ≡ w.tables.ghost_name
+    pub marks : w'.marks.ghost_name ≡ w.marks.ghost_name
+    pub long : work_lengths w' ≡ work_lengths w

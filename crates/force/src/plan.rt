@@ -3,7 +3,7 @@ ghost use Rattle.std.specs.Prelude.{◌≡◌, ℕ, ◌*◌, ◌≤◌, length};
 ghost use Rattle.records.specs.Register.{seen, register_of};
 ghost use Rattle.records.specs.Stored.{Stored};
 ghost use Rattle.force.specs.Reckoned.{TimesAfter, RingAfter};
-ghost use Rattle.force.specs.Work.{WorkListed, SameWork};
+ghost use Rattle.force.specs.Work.{WorkListed, SameWork, work_lengths};
 
 use crate::{Work, fill_arcs, fill_floors};
 use kinds::Kind;
@@ -47,7 +47,7 @@ pub fn reckon_within<K: Kind>(
 ) -> Result<(), NetworkFault>
     requires stored { Stored K.Kind.time (seen v) }
     requires lengths { (length v.tracks.now ≡ 64) × ((length v.runs.now ≡ 512) × ((length v.connections.now ≡ 512) × (length v.settings.now ≡ 4608))) }
-    requires work { WorkListed work.old }
+    requires work { WorkListed (work_lengths work.old) }
     requires written { (length times.old ≡ 1024) × (length ring.old ≡ 1024) }
     ensures times { TimesAfter K.Kind.time (register_of K.Kind.time (seen v.entry)) times.old times.new result }
     ensures ring { RingAfter K.Kind.time (register_of K.Kind.time (seen v.entry)) ring.old ring.new result }

@@ -1,6 +1,6 @@
 //! The working memory of a reckoning.
 ghost use Rattle.std.specs.Prelude.{Decides};
-ghost use Rattle.force.specs.Work.{WorkListed};
+ghost use Rattle.force.specs.Work.{WorkListed, work_lengths};
 
 use kinds::Kind;
 use network::Arc;
@@ -21,7 +21,7 @@ pub struct Work<'w, K> {
 impl<K: Kind> Work<'_, K> {
     /// Whether each memory has its listed length.
     pub fn is_listed(&self) -> bool
-        ensures { Decides result (WorkListed self.now) }
+        ensures { Decides result (WorkListed (work_lengths self.now)) }
     {
         self.counts.len() == 512
             && self.sums.len() == 512
