@@ -1,10 +1,14 @@
 //! Kinds of time: what the library asks of a time, and the two kinds of the base.
 #![tactic(auto)]
 
-ghost use Rattle.std.specs.Prelude.{◌≡◌, ℕ, ◌+◌};
+ghost use Rattle.std.specs.Prelude.{◌≡◌, ℕ, ◌+◌, nat_le};
 ghost use Rattle.kinds.specs.Time.{Time, Laws, within};
-ghost use Rattle.kinds.specs.Models.{seconds_time, changes_time};
+ghost use Rattle.kinds.specs.Models.{over, seconds_time, changes_time};
 ghost use Rattle.kinds.specs.Kept.{seconds_laws, changes_laws};
+
+mod words;
+
+pub use words::ChangesError;
 
 /// The most that the sizes of two joined values may sum to.
 pub const SIZE_LIMIT: u64 = 400_000_000;
@@ -39,8 +43,22 @@ pub trait Kind: Copy {
     ghost laws: { Laws time };
 }
 
+// Whether two sizes sum to at most the limit.
+fn fits(a: u32, b: u32) -> bool
+    ensures { result ≡ nat_le (a + b) SIZE_LIMIT }
+{
+    a as u64 + b as u64 <= SIZE_LIMIT
+}
+
+// How many seconds `a` is later than `p`.
+fn over(a: i32, p: i32) -> u32
+    ensures { result ≡ over a p }
+{
+    a.max(p).abs_diff(p)
+}
+
 /// Whole seconds.
-#[derive(Clone, Copy)]
+#[derive(Clone, Copy, Debug, PartialEq, Eq, PartialOrd, Ord)]
 pub struct Seconds {
     pub value: i32,
 }
@@ -51,27 +69,17 @@ impl Kind for Seconds {
     ghost laws = { seconds_laws };
 
     fn compare(self, b: Seconds) -> bool {
-        self.value <= b.value
+        self <= b
     }
 
     fn then(self, w: Seconds) -> Option<Seconds> {
-        if self.size() as u64 + w.size() as u64 > SIZE_LIMIT {
-            return None;
-        }
-        Some(Seconds {
+        fits(self.size(), w.size()).then(|| Seconds {
             value: self.value + w.value,
         })
     }
 
     fn lateness(self, p: Seconds) -> Option<u32> {
-        if self.size() as u64 + p.size() as u64 > SIZE_LIMIT {
-            return None;
-        }
-        if p.value < self.value {
-            Some((self.value - p.value) as u32)
-        } else {
-            Some(0)
-        }
+        fits(self.size(), p.size()).then(|| over(self.value, p.value))
     }
 
     fn nothing() -> Seconds {
@@ -84,7 +92,7 @@ impl Kind for Seconds {
 }
 
 /// Whole seconds, and among equal seconds a count of changes of train.
-#[derive(Clone, Copy)]
+#[derive(Clone, Copy, Debug, PartialEq, Eq, PartialOrd, Ord)]
 pub struct Changes {
     pub seconds: i32,
     pub count: u32,
@@ -96,28 +104,18 @@ impl Kind for Changes {
     ghost laws = { changes_laws };
 
     fn compare(self, b: Changes) -> bool {
-        self.seconds < b.seconds || (self.seconds <= b.seconds && self.count <= b.count)
+        self <= b
     }
 
     fn then(self, w: Changes) -> Option<Changes> {
-        if self.size() as u64 + w.size() as u64 > SIZE_LIMIT {
-            return None;
-        }
-        Some(Changes {
+        fits(self.size(), w.size()).then(|| Changes {
             seconds: self.seconds + w.seconds,
             count: self.count + w.count,
         })
     }
 
     fn lateness(self, p: Changes) -> Option<u32> {
-        if self.size() as u64 + p.size() as u64 > SIZE_LIMIT {
-            return None;
-        }
-        if p.seconds < self.seconds {
-            Some((self.seconds - p.seconds) as u32)
-        } else {
-            Some(0)
-        }
+        fits(self.size(), p.size()).then(|| over(self.seconds, p.seconds))
     }
 
     fn nothing() -> Changes {
