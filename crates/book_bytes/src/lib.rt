@@ -1,7 +1,7 @@
 //! The bytes of numbers and of kinds of time, as a line book has them.
 #![tactic(auto)]
 
-ghost use Rattle.std.specs.Prelude.{◌≡◌, length};
+ghost use Rattle.std.specs.Prelude.{◌≡◌, ℕ, length, refl};
 ghost use Rattle.kinds.specs.Time.{within};
 ghost use Rattle.book_bytes.specs.Spelling.{Spelling, Spells, Reads};
 ghost use Rattle.book_bytes.specs.Kinds.{seconds_spelling, changes_spelling};
@@ -17,20 +17,18 @@ pub use numbers::{read_four, read_two};
 /// A kind of time that is also written as bytes: by a one-byte code of its own, and each value in as many bytes. It reads just what it
 /// writes, for sizes up to 400,000,000.
 pub trait BookKind: Kind {
-    const CODE: u8;
-
-    const WIDTH: usize;
-
     /// How the kind is spelt.
     ghost spelling: { Spelling Self };
 
     /// The code that a book names the kind by.
-    fn book_code() -> u8
-        ensures { result ≡ spelling.code };
+    const CODE: u8;
+
+    ghost CODE: { ℕ };
 
     /// How many bytes a value takes.
-    fn book_width() -> usize
-        ensures { result ≡ spelling.width };
+    const WIDTH: usize;
+
+    ghost WIDTH: { ℕ };
 
     /// The value of a size up to 400,000,000 that the bytes spell, or none if there is none.
     fn read(bytes: &[u8]) -> Option<Self>
@@ -43,16 +41,18 @@ pub trait BookKind: Kind {
 
     /// What each implementation proves of that spelling.
     ghost spells: { Spells Self.Kind.time spelling };
+
+    /// The two constants are the spelling's.
+    ghost coded: { CODE ≡ spelling.code };
+
+    ghost wide: { WIDTH ≡ spelling.width };
 }
 
 // A value, or none if it is over its size.
 fn within_size<K: Kind>(value: K) -> Option<K>
     ensures { result ≡ within (K.Kind.time.size value) value }
 {
-    if value.size() as u64 > SIZE_LIMIT {
-        return None;
-    }
-    Some(value)
+    (value.size() as u64 <= SIZE_LIMIT).then_some(value)
 }
 
 impl BookKind for Seconds {
@@ -60,17 +60,17 @@ impl BookKind for Seconds {
 
     const WIDTH: usize = 4;
 
+    ghost CODE = { seconds_spelling.code };
+
+    ghost WIDTH = { seconds_spelling.width };
+
     ghost spelling = { seconds_spelling };
 
     ghost spells = { Prim.search rules };
 
-    fn book_code() -> u8 {
-        Self::CODE
-    }
+    ghost coded = { refl };
 
-    fn book_width() -> usize {
-        Self::WIDTH
-    }
+    ghost wide = { refl };
 
     fn read(bytes: &[u8]) -> Option<Seconds> {
         let value = read_signed(bytes)?;
@@ -87,17 +87,17 @@ impl BookKind for Changes {
 
     const WIDTH: usize = 8;
 
+    ghost CODE = { changes_spelling.code };
+
+    ghost WIDTH = { changes_spelling.width };
+
     ghost spelling = { changes_spelling };
 
     ghost spells = { Prim.search rules };
 
-    fn book_code() -> u8 {
-        Self::CODE
-    }
+    ghost coded = { refl };
 
-    fn book_width() -> usize {
-        Self::WIDTH
-    }
+    ghost wide = { refl };
 
     fn read(bytes: &[u8]) -> Option<Changes> {
         let (front, back) = bytes.split_at_checked(4)?;
@@ -107,8 +107,8 @@ impl BookKind for Changes {
     }
 
     fn write(self, out: &mut [u8]) {
-        let [a, b, c, d] = self.seconds.to_be_bytes();
-        let [e, f, g, h] = self.count.to_be_bytes();
-        out.copy_from_slice(&[a, b, c, d, e, f, g, h]);
+        let (seconds, count) = out.split_at_mut(4);
+        seconds.copy_from_slice(&self.seconds.to_be_bytes());
+        count.copy_from_slice(&self.count.to_be_bytes());
     }
 }

@@ -6,28 +6,19 @@ ghost use Rattle.book_bytes.specs.Spelling.{ReadsTwo, ReadsFour, ReadsSigned};
 pub fn read_two(bytes: &[u8]) -> Option<u16>
     ensures { ReadsTwo bytes.now result }
 {
-    let [high, low] = bytes else {
-        return None;
-    };
-    Some(u16::from_be_bytes([*high, *low]))
+    Some(u16::from_be_bytes(bytes.try_into().ok()?))
 }
 
 /// The number that four bytes spell, or none if there are not four.
 pub fn read_four(bytes: &[u8]) -> Option<u32>
     ensures { ReadsFour bytes.now result }
 {
-    let [a, b, c, d] = bytes else {
-        return None;
-    };
-    Some(u32::from_be_bytes([*a, *b, *c, *d]))
+    Some(u32::from_be_bytes(bytes.try_into().ok()?))
 }
 
 // The signed number that four bytes spell in two's complement, or none if there are not four.
 pub(crate) fn read_signed(bytes: &[u8]) -> Option<i32>
     ensures { ReadsSigned bytes.now result }
 {
-    let [a, b, c, d] = bytes else {
-        return None;
-    };
-    Some(i32::from_be_bytes([*a, *b, *c, *d]))
+    Some(i32::from_be_bytes(bytes.try_into().ok()?))
 }
