@@ -47,10 +47,7 @@ impl From<Placed> for BookFault {
 pub fn at_place<X>(answer: Result<X, PlanFault>, place: usize) -> Result<X, Placed>
     ensures { result ≡ placed_at place answer }
 {
-    match answer {
-        Ok(x) => Ok(x),
-        Err(fault) => Err(Placed { fault, place }),
-    }
+    answer.map_err(|fault| Placed { fault, place })
 }
 
 impl BookFault {
@@ -60,12 +57,11 @@ impl BookFault {
     {
         match self {
             BookFault::Length => 1,
-            BookFault::Mark => 13,
-            BookFault::Code { place: _ } => 13,
-            BookFault::Field { place: _ } => 14,
-            BookFault::Order { place: _ } => 15,
+            BookFault::Mark | BookFault::Code { .. } => 13,
+            BookFault::Field { .. } => 14,
+            BookFault::Order { .. } => 15,
             BookFault::Short => 16,
-            BookFault::Plan { fault, place: _ } => fault.number(),
+            BookFault::Plan { fault, .. } => fault.number(),
         }
     }
 
@@ -81,11 +77,11 @@ impl BookFault {
         ensures { result ≡ book_place self.now }
     {
         match self {
-            BookFault::Code { place } => *place,
-            BookFault::Field { place } => *place,
-            BookFault::Order { place } => *place,
-            BookFault::Plan { fault: _, place } => *place,
-            _ => 0,
+            BookFault::Code { place }
+            | BookFault::Field { place }
+            | BookFault::Order { place }
+            | BookFault::Plan { place, .. } => *place,
+            BookFault::Length | BookFault::Mark | BookFault::Short => 0,
         }
     }
 }

@@ -19,7 +19,7 @@ pub fn after_mark(book: &[u8]) -> Option<&[u8]>
 }
 
 /// A field by its tag, with its own bytes in the book.
-#[derive(Clone, Copy)]
+#[derive(Clone, Copy, Debug, PartialEq, Eq)]
 pub enum Field<'a> {
     Kind(&'a [u8]),
     Track(&'a [u8]),
@@ -43,19 +43,20 @@ impl<'a> Field<'a> {
             Field::Connection(_) => 4,
             Field::Turned(_) => 5,
             Field::Broken(_) => 6,
-            Field::Unknown { tag, bytes: _ } => *tag,
+            Field::Unknown { tag, .. } => *tag,
         }
     }
 }
 
 /// A field, and the offset of its tag in the book.
-#[derive(Clone, Copy)]
+#[derive(Clone, Copy, Debug, PartialEq, Eq)]
 pub struct Found<'a> {
     pub field: Field<'a>,
     pub offset: usize,
 }
 
 // The field of a tag and its bytes.
+// Stays: a tag alone makes no field, and a `From` of the pair is no plainer.
 fn field_of<'a>(tag: u8, body: &'a [u8]) -> Field<'a>
     ensures { Names tag body.now result }
 {
@@ -82,10 +83,9 @@ pub fn next_field<'a>(
         [] => Ok(None),
         [tag, high, low, behind @ ..] => {
             let long = u16::from_be_bytes([*high, *low]) as usize;
-            if behind.len() < long {
-                return Err(BookFault::Field { place: offset });
-            }
-            let (body, after) = behind.split_at(long);
+            let (body, after) = behind
+                .split_at_checked(long)
+                .ok_or(BookFault::Field { place: offset })?;
             let field = field_of(*tag, body);
             Ok(Some((Found { field, offset }, after)))
         }
