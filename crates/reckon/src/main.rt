@@ -4,87 +4,65 @@
 use anyhow::anyhow;
 use kinds::{Changes, Kind, Seconds};
 use network::{ARCS, Arc, EVENTS, MARKS, NetworkFault, TABLES, reckon};
-use std::alloc::{AllocError, Global};
+use std::alloc::Global;
+use std::fmt::Display;
 use std::io::{BufRead, BufReader};
-use std::str::SplitWhitespace;
+use std::str::FromStr;
 use std::{env, io};
 
 mod text;
 
-use text::{Written, number, words_of};
+use text::{Entry, LineFault, entry_of, line_of};
 
-// A network as it is read: what is kept of the floors and arcs, and how many there were.
+// A network as it is read.
 #[derive(Drop)]
 struct Sheet<K> {
     floors: Vec<K>,
     arcs: Vec<Arc<K>>,
-    events: usize,
-    arc_count: usize,
 }
 
-impl<K: Written> Sheet<K> {
-    fn new(heap: Global) -> Result<Self, AllocError> {
-        let none = K::nothing();
-        let blank = Arc {
-            from: 0,
-            to: 0,
-            duration: none,
-        };
-        Ok(Sheet {
-            floors: vec![in heap; none; EVENTS]?,
-            arcs: vec![in heap; blank; ARCS]?,
-            events: 0,
-            arc_count: 0,
-        })
+impl<K: Kind + Clone + Display + FromStr> Sheet<K>
+where
+    K::Err: Drop,
+{
+    fn new(heap: Global) -> Self {
+        Sheet {
+            floors: Vec::new(heap),
+            arcs: Vec::new(heap),
+        }
     }
 
-    fn event(&mut self, floor: K) {
-        let at = self.events;
-        if at < self.floors.len() {
-            self.floors[at] = floor;
+    // Enters a line.
+    fn enter(&mut self, line: &str) -> Result<(), LineFault> {
+        match entry_of(line).ok_or(LineFault::Misread)? {
+            Entry::Event { floor } => self.floors.push(floor)?,
+            Entry::Arc(arc) => self.arcs.push(arc)?,
         }
-        self.events = at.saturating_add(1);
-    }
-
-    fn arc(&mut self, arc: Arc<K>) {
-        let at = self.arc_count;
-        if at < self.arcs.len() {
-            self.arcs[at] = arc;
-        }
-        self.arc_count = at.saturating_add(1);
-    }
-
-    // Enters a line; none where it is misread.
-    fn enter(&mut self, mut words: SplitWhitespace<'_>) -> Option<()> {
-        match words.next()? {
-            "event" => {
-                let floor = K::read(words.next()?)?;
-                ended(&mut words)?;
-                self.event(floor);
-            }
-            "arc" => {
-                let from = number(words.next()?)?;
-                let to = number(words.next()?)?;
-                let duration = K::read(words.next()?)?;
-                ended(&mut words)?;
-                self.arc(Arc { from, to, duration });
-            }
-            _ => return None,
-        }
-        Some(())
+        Ok(())
     }
 
     // Reckons the network and prints what is answered.
-    fn answer(&self, rt: &HostRuntime) -> anyhow::Result<()> {
+    fn answer(mut self, rt: &HostRuntime) -> anyhow::Result<()> {
         let heap = rt.alloc();
         let none = K::nothing();
+        let events = self.floors.len();
+        let arc_count = self.arcs.len();
+        self.floors.resize(EVENTS, none)?;
+        self.arcs.resize(
+            ARCS,
+            Arc {
+                from: 0,
+                to: 0,
+                duration: none,
+            },
+        )?;
         let mut times = vec![in heap; none; EVENTS]?;
         let mut ring = vec![in heap; 0u16; EVENTS]?;
         let mut tables = vec![in heap; none; TABLES]?;
         let mut marks = vec![in heap; 0u16; MARKS]?;
         match reckon(
-            self.events,
-            self.arc_count,
+            events,
+            arc_count,
             self.floors.as_slice(),
             self.arcs.as_slice(),
             times.as_mut_slice(),
@@ -92,22 +70,14 @@ impl<K: Written> Sheet<K> {
             tables.as_mut_slice(),
             marks.as_mut_slice(),
         ) {
-            Ok(()) => print_times(rt, self.events, times.as_slice()),
+            Ok(()) => print_times(rt, events, times.as_slice()),
             Err(fault) => print_fault(rt, fault, ring.as_slice()),
         }
     }
 }
 
-fn ended(words: &mut SplitWhitespace<'_>) -> Option<()> {
-    match words.next() {
-        None => Some(()),
-        Some(_) => None,
-    }
-}
-
-fn print_times<K: Written>(rt: &HostRuntime, events: usize, times: &[K]) -> anyhow::Result<()> {
+fn print_times<K: Display>(rt: &HostRuntime, events: usize, times: &[K]) -> anyhow::Result<()> {
     for (event, time) in times.iter().take(events).enumerate() {
-        let time = time.write(rt.alloc())?;
         println!(rt; "{event} {time}")?;
     }
     Ok(())
@@ -127,45 +97,43 @@ fn print_fault(rt: &HostRuntime, fault: NetworkFault, ring: &[u16]) -> anyhow::R
     Ok(())
 }
 
-// The network in the kind of time that is chosen; none is as long as no line has been taken.
+// The network in the kind of time that is chosen.
 #[derive(Drop)]
 enum Chosen {
-    Open,
     Seconds(Sheet<Seconds>),
     Changes(Sheet<Changes>),
 }
 
 // What a line chooses, where it is a kind's.
-fn kind_of(heap: Global, line: &str) -> Result<Option<Chosen>, AllocError> {
+fn kind_of(heap: Global, line: &str) -> Option<Chosen> {
     let mut words = line.split_whitespace();
-    let (Some("kind"), Some(kind), None) = (words.next(), words.next(), words.next()) else {
-        return Ok(None);
-    };
-    match kind {
-        "seconds" => Ok(Some(Chosen::Seconds(Sheet::new(heap)?))),
-        "changes" => Ok(Some(Chosen::Changes(Sheet::new(heap)?))),
-        _ => Ok(None),
+    match (words.next()?, words.next()?, words.next()) {
+        ("kind", "seconds", None) => Some(Chosen::Seconds(Sheet::new(heap))),
+        ("kind", "changes", None) => Some(Chosen::Changes(Sheet::new(heap))),
+        _ => None,
     }
 }
 
-// Takes a line; false where it is misread.
-fn take(heap: Global, chosen: &mut Chosen, line: &str) -> Result<bool, AllocError> {
-    if let Chosen::Open = chosen {
-        if let Some(kind) = kind_of(heap, line)? {
-            *chosen = kind;
-            return Ok(true);
-        }
-        let mut sheet: Sheet<Seconds> = Sheet::new(heap)?;
-        let taken = sheet.enter(line.split_whitespace()).is_some();
-        if taken {
-            *chosen = Chosen::Seconds(sheet);
-        }
-        return Ok(taken);
-    }
+// Takes a line. Nothing is chosen as long as no line has been taken.
+fn take(heap: Global, chosen: &mut Option<Chosen>, bytes: &[u8]) -> Result<(), LineFault> {
+    let Some(line) = line_of(bytes)? else {
+        return Ok(());
+    };
     match chosen {
-        Chosen::Open => Ok(false),
-        Chosen::Seconds(sheet) => Ok(sheet.enter(line.split_whitespace()).is_some()),
-        Chosen::Changes(sheet) => Ok(sheet.enter(line.split_whitespace()).is_some()),
+        None => {
+            let kind = match kind_of(heap, line) {
+                Some(kind) => kind,
+                None => {
+                    let mut sheet = Sheet::new(heap);
+                    sheet.enter(line)?;
+                    Chosen::Seconds(sheet)
+                }
+            };
+            *chosen = Some(kind);
+            Ok(())
+        }
+        Some(Chosen::Seconds(sheet)) => sheet.enter(line),
+        Some(Chosen::Changes(sheet)) => sheet.enter(line),
     }
 }
 
@@ -174,24 +142,21 @@ fn run(rt: &HostRuntime) -> anyhow::Result<()> {
         return Err(anyhow!("usage: reckon < NETWORK"));
     }
     let heap = rt.alloc();
-    let mut chosen = Chosen::Open;
+    let mut chosen = None;
     let mut count = 0u64;
     for bytes in BufReader::new(heap, rt.stdin())?.split(heap, b'\n') {
         let bytes = bytes?;
         count = count.saturating_add(1);
-        let taken = match words_of(bytes.as_slice()) {
-            text::Words::None => true,
-            text::Words::Line(line) => take(heap, &mut chosen, line)?,
-            text::Words::Unread => false,
-        };
-        if !taken {
-            println!(rt; "misread {count}")?;
+        match take(heap, &mut chosen, bytes.as_slice()) {
+            Ok(()) => {}
+            Err(LineFault::Misread) => println!(rt; "misread {count}")?,
+            Err(LineFault::Memory(e)) => return Err(e.into()),
         }
     }
     match chosen {
-        Chosen::Open => Ok(()),
-        Chosen::Seconds(sheet) => sheet.answer(rt),
-        Chosen::Changes(sheet) => sheet.answer(rt),
+        None => Ok(()),
+        Some(Chosen::Seconds(sheet)) => sheet.answer(rt),
+        Some(Chosen::Changes(sheet)) => sheet.answer(rt),
     }
 }
 

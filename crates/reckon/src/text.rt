@@ -1,85 +1,72 @@
-//! Lines of words, and times as they are written.
-use kinds::{Changes, Kind, Seconds};
-use std::alloc::{AllocError, Global};
+//! Lines of words, and what they enter in a network.
+ghost use Rattle.std.specs.Prelude.{◌≡◌, IfOk, IfSome, IsTrue, All};
+ghost use Rattle.reckon.specs.Text.{plain};
 
-/// A kind of time with a written form of one word.
-pub trait Written: Kind + Clone {
-    fn read(word: &str) -> Option<Self>;
+use kinds::Kind;
+use network::Arc;
+use std::alloc::{AllocError, AllocFailed};
+use std::str::FromStr;
 
-    fn write(self, heap: Global) -> Result<String, AllocError>;
+/// Why a line is not taken.
+#[derive(Debug, Drop)]
+pub enum LineFault {
+    Misread,
+    Memory(AllocError),
 }
 
-impl Written for Seconds {
-    fn read(word: &str) -> Option<Seconds> {
-        let value = word.parse::<i32>().ok()?;
-        Some(Seconds { value })
-    }
-
-    fn write(self, heap: Global) -> Result<String, AllocError> {
-        let value = self.value;
-        format!(in heap; "{value}")
-    }
-}
-
-impl Written for Changes {
-    fn read(word: &str) -> Option<Changes> {
-        let (seconds, count) = word.split_once('/')?;
-        let seconds = seconds.parse::<i32>().ok()?;
-        let count = count.parse::<u32>().ok()?;
-        Some(Changes { seconds, count })
-    }
-
-    fn write(self, heap: Global) -> Result<String, AllocError> {
-        let seconds = self.seconds;
-        let count = self.count;
-        format!(in heap; "{seconds}/{count}")
+impl<T: Drop> From<AllocFailed<T>> for LineFault {
+    fn from(e: AllocFailed<T>) -> LineFault {
+        LineFault::Memory(AllocError::from(e))
     }
 }
 
-/// A number of an event.
-pub(crate) fn number(word: &str) -> Option<u16> {
-    word.parse::<u16>().ok()
+/// What a line enters in a network.
+#[derive(Clone, Copy)]
+pub enum Entry<K> {
+    Event { floor: K },
+    Arc(Arc<K>),
 }
 
-/// What stands on a line.
-pub enum Words<'a> {
-    /// Nothing, or a comment.
-    None,
-    Line(&'a str),
-    /// Something that is no text of words.
-    Unread,
+/// The line that the bytes are, or none where it is blank or a comment.
+pub(crate) fn line_of(bytes: &[u8]) -> Result<Option<&str>, LineFault>
+    ensures { IfOk result (λ line. IfSome line (λ l. All (λ b. IsTrue (plain b)) l.now)) }
+{
+    let line = std::str::from_utf8(bytes).map_err(|_| LineFault::Misread)?;
+    let line = line.strip_suffix('\r').unwrap_or(line);
+    match line.split_whitespace().next() {
+        None => Ok(None),
+        Some(first) if first.starts_with('#') => Ok(None),
+        Some(_) if line.bytes().all(is_plain) => Ok(Some(line)),
+        Some(_) => Err(LineFault::Misread),
+    }
 }
 
-/// The words of a line, which are parted by spaces or tabs.
-pub(crate) fn words_of(bytes: &[u8]) -> Words<'_> {
-    let Ok(line) = std::str::from_utf8(bytes) else {
-        return Words::Unread;
-    };
-    let line = match line.strip_suffix('\r') {
-        Some(line) => line,
-        None => line,
-    };
+// Whether a byte is of words, which are parted by spaces or tabs.
+fn is_plain(byte: u8) -> bool
+    ensures { result ≡ plain byte }
+{
+    matches!(byte, b'\t' | b' '..=b'~')
+}
+
+/// The entry that a line is, or none where it is misread.
+pub(crate) fn entry_of<K: Kind + FromStr>(line: &str) -> Option<Entry<K>>
+where
+    K::Err: Drop,
+{
     let mut words = line.split_whitespace();
+    let entry = match words.next()? {
+        "event" => Entry::Event {
+            floor: words.next()?.parse().ok()?,
+        },
+        "arc" => Entry::Arc(Arc {
+            from: words.next()?.parse().ok()?,
+            to: words.next()?.parse().ok()?,
+            duration: words.next()?.parse().ok()?,
+        }),
+        _ => return None,
+    };
     match words.next() {
-        None => Words::None,
-        Some(first) => {
-            if first.starts_with('#') {
-                Words::None
-            } else if plain(line) {
-                Words::Line(line)
-            } else {
-                Words::Unread
-            }
-        }
+        None => Some(entry),
+        Some(_) => None,
     }
-}
-
-// Whether a line has no character but those of words, spaces and tabs.
-fn plain(line: &str) -> bool {
-    for byte in line.bytes() {
-        if byte != b'\t' && (byte < b' ' || byte > b'~') {
-            return false;
-        }
-    }
-    true
 }
