@@ -1,12 +1,12 @@
 -- What seconds, and seconds with changes, mean. Assumes nothing.
-use Rattle.std.specs.Prelude.{ℕ, ◌+◌, max, cond, ◌&&◌, ◌||◌, ℤ, pos, ◌+ℤ◌, ◌-ℤ◌, int_le, int_lt, nat_le, unsigned_abs}
+use Rattle.std.specs.Prelude.{ℕ, ◌+◌, max, if◌then◌else◌, ◌&&◌, ◌||◌, ℤ, pos, ◌+ℤ◌, ◌-ℤ◌, int_le, int_lt, nat_le, unsigned_abs}
 use Rattle.kinds.specs.Time.{Time}
 use Rattle.kinds.specs.declared.Seconds.{Seconds}
 use Rattle.kinds.specs.declared.Changes.{Changes}
 
 -- max(0, a - p)
 abbrev pub over : ℤ → ℤ → ℕ
-over a p = cond (int_lt p a) (unsigned_abs (a -ℤ p)) 0
+over a p = if int_lt p a then unsigned_abs (a -ℤ p) else 0
 
 -- Whole seconds: joining adds, nothing is 0, the size is the absolute value.
 abbrev pub seconds_time : Time Seconds

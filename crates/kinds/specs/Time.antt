@@ -1,5 +1,5 @@
 -- What a kind of time means, and the laws that each kind keeps. Assumes nothing.
-use Rattle.std.specs.Prelude.{◌≡◌, ℕ, ◌+◌, ◌≤◌, Bool, true, false, cond, Some, None, Option, nat_le}
+use Rattle.std.specs.Prelude.{◌≡◌, ℕ, ◌+◌, ◌≤◌, Bool, true, false, if◌then◌else◌, Some, None, Option, nat_le}
 
 -- The meaning of a kind, over its values. Times and durations are both values.
 pub record Time (K : Type 0) : Type 0 where
@@ -15,7 +15,7 @@ pub record Time (K : Type 0) : Type 0 where
 
 -- an answer that is there exactly if the sizes sum to at most 400,000,000
 abbrev pub within : {A : Type 0} → ℕ → A → Option A
-within sizes x = cond (nat_le sizes 400000000) (Some x) None
+within sizes x = if nat_le sizes 400000000 then Some x else None
 
 -- The laws, each where no sum of sizes passes 400,000,000. There is no other: joining need not commute, nothing need not be
 -- the least value, and a later value need not have a larger size.
