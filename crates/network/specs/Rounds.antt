@@ -22,6 +22,12 @@ module _ {K : Type 0} (t : Time K) where
   abbrev pub Sized : ℕ → List K → Type 0
   Sized b xs = (v : ℕ) → v < length xs → t.size (at t xs v) ≤ b
 
+  -- a network within its limits
+  pub record InLimits (floors : List K) (arcs : List (Arc K)) : Type 0 where
+    pub few : length floors ≤ 1024
+    pub sound : Sound (length floors) arcs
+    pub sized : Sized 110000000 floors
+
   module _ (arcs : List (Arc K)) where
     -- x is v's value after a round that has come to arc m: the old one, or raised by the arc at place f
     abbrev pub Source : ℕ → List K → ℕ → K → ℕ → Type 0

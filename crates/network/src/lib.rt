@@ -1,12 +1,12 @@
 //! Networks of events and arcs over any kind of time: the least times, or the ring that forbids them.
 #![tactic(auto)]
 
-ghost use Rattle.std.specs.Prelude.{◌≡◌, ℕ, ◌+◌, ◌-◌, ◌*◌, ◌<◌, ◌≤◌, reverse, length, take, drop, Some, None, Decides, MatchOption, ◌≢◌, slice_index};
+ghost use Rattle.std.specs.Prelude.{◌≡◌, ℕ, ◌+◌, ◌-◌, ◌*◌, ◌<◌, ◌≤◌, reverse, length, take, drop, Some, None, Decides, MatchOption, ◌≢◌, slice_index, min, IfOk};
 ghost use Rattle.network.specs.Network.{Least, Ring, Names, HasRing, ends};
 ghost use Rattle.network.specs.Refusals.{Passed, Answers};
 ghost use Rattle.network.specs.Faults.{network_number, network_place};
-ghost use Rattle.network.specs.Reckoning.{at, placed, network_of, SomeOf, Stray, first_stray, lengths, length_rows, network_rows, handed, first_rows, reckon_rows, TimesHold, RingHolds, RingExactly};
-ghost use Rattle.network.specs.Rounds.{Sound, Sized, Round, Settled, Rising, Turned, Solved};
+ghost use Rattle.network.specs.Reckoning.{at, placed, network_of, SomeOf, Stray, first_stray, lengths, length_rows, network_rows, listed, kept_floors, kept_arcs, handed, first_rows, reckon_rows, TimesHold, RingHolds, RingExactly};
+ghost use Rattle.network.specs.Rounds.{InLimits, Sized, Round, Settled, Rising, Turned, Solved};
 
 use kinds::Kind;
 
@@ -20,6 +20,15 @@ pub struct Arc<K> {
     pub from: u16,
     pub to: u16,
     pub duration: K,
+}
+
+/// A network as it is listed in memory: its floors are the first `events` of `floors`, and its arcs the first `arc_count` of `arcs`.
+#[derive(Clone, Copy)]
+pub struct Listing<'n, K> {
+    pub events: usize,
+    pub floors: &'n [K],
+    pub arc_count: usize,
+    pub arcs: &'n [Arc<K>],
 }
 
 /// The most events, and the length of floors, times and ring memory.
@@ -39,16 +48,23 @@ pub const DURATION_SIZE: u32 = 100_000;
 // Stands for no arc, and for an event that is not marked.
 const NO_ARC: u16 = 65_535;
 
+// The floors and the arcs of a network that keeps its limits.
+#[derive(Drop)]
+struct Kept<'n, K: Kind> {
+    floors: &'n [K],
+    arcs: &'n [Arc<K>],
+    ghost limits: { InLimits K.Kind.time floors.now arcs.now },
+}
+
 // One round: each event's new time is the latest of its old one and of what its arcs bring.
-fn round<K: Kind>(old: &[K], arcs: &[Arc<K>], new: &mut [K], from: &mut [u16])
-    requires lengths { (length new.old ≡ length old.now) × (length from.old ≡ length old.now) }
-    requires sound { Sound K.Kind.time (length old.now) arcs.now }
+fn round<K: Kind>(kept: &Kept<'_, K>, old: &[K], new: &mut [K], from: &mut [u16])
+    requires lengths { (length old.now ≡ length kept.now.floors.now) × ((length new.old ≡ length old.now) × (length from.old ≡ length old.now)) }
     requires sized { Sized K.Kind.time 300000000 old.now }
-    ensures { Round K.Kind.time arcs.now (length arcs.now) old.now new.new from.new }
+    ensures { Round K.Kind.time kept.now.arcs.now (length kept.now.arcs.now) old.now new.new from.new }
 {
     new.copy_from_slice(old);
     from.fill(NO_ARC);
-    for (i, arc) in arcs.iter().enumerate() {
+    for (i, arc) in kept.arcs.iter().enumerate() {
         let end = arc.to as usize;
         match old[arc.from as usize].then(arc.duration) {
             Some(x) => {
@@ -76,24 +92,20 @@ fn first_raised(row: &[u16]) -> Option<usize>
 
 // Raises the floors round by round until nothing changes; answers an event that still rises in the last round.
 fn settle<K: Kind>(
-    floors: &[K],
-    arcs: &[Arc<K>],
+    kept: &Kept<'_, K>,
     times: &mut [K],
     next: &mut [K],
     rows: &mut [u16],
 ) -> Option<usize>
-    requires few { length floors.now ≤ 1024 }
-    requires lengths { (length times.old ≡ length floors.now) × ((length next.old ≡ length floors.now) × (length rows.old ≡ length floors.now * length floors.now)) }
-    requires sound { Sound K.Kind.time (length floors.now) arcs.now }
-    requires sized { Sized K.Kind.time 110000000 floors.now }
-    ensures { elim result [ None ↦ Settled K.Kind.time floors.now arcs.now times.new | Some v ↦ Rising K.Kind.time floors.now arcs.now rows.new v ] }
+    requires lengths { (length times.old ≡ length kept.now.floors.now) × ((length next.old ≡ length kept.now.floors.now) × (length rows.old ≡ length kept.now.floors.now * length kept.now.floors.now)) }
+    ensures { elim result [ None ↦ Settled K.Kind.time kept.now.floors.now kept.now.arcs.now times.new | Some v ↦ Rising K.Kind.time kept.now.floors.now kept.now.arcs.now rows.new v ] }
 {
-    let n = floors.len();
-    times.copy_from_slice(floors);
+    let n = kept.floors.len();
+    times.copy_from_slice(kept.floors);
     for k in 0..n {
         let start = k * n;
         let row = &mut rows[start..start + n];
-        round(times, arcs, next, row);
+        round(kept, times, next, row);
         match first_raised(row) {
             None => return None,
             Some(v) => {
@@ -110,21 +122,17 @@ fn settle<K: Kind>(
 // Traces the rise of `v` in the last round back until an event comes twice. The ring's arcs stand in `path`, the last first,
 // from the first place of the result up to the second.
 fn trace<K: Kind>(
-    floors: &[K],
-    arcs: &[Arc<K>],
+    kept: &Kept<'_, K>,
     rows: &[u16],
     v: usize,
     path: &mut [u16],
     seen: &mut [u16],
 ) -> (usize, usize)
-    requires few { length floors.now ≤ 1024 }
-    requires lengths { (length rows.now ≡ length floors.now * length floors.now) × ((length path.old ≡ length floors.now) × (length seen.old ≡ length floors.now)) }
-    requires sound { Sound K.Kind.time (length floors.now) arcs.now }
-    requires sized { Sized K.Kind.time 110000000 floors.now }
-    requires rising { Rising K.Kind.time floors.now arcs.now rows.now v }
-    ensures { (result.0 < result.1) × (result.1 ≤ length floors.now) × Ring K.Kind.time (placed K.Kind.time arcs.now) (drop result.0 (take result.1 path.new)) }
+    requires lengths { (length rows.now ≡ length kept.now.floors.now * length kept.now.floors.now) × ((length path.old ≡ length kept.now.floors.now) × (length seen.old ≡ length kept.now.floors.now)) }
+    requires rising { Rising K.Kind.time kept.now.floors.now kept.now.arcs.now rows.now v }
+    ensures { (result.0 < result.1) × (result.1 ≤ length kept.now.floors.now) × Ring K.Kind.time (placed K.Kind.time kept.now.arcs.now) (drop result.0 (take result.1 path.new)) }
 {
-    let n = floors.len();
+    let n = kept.floors.len();
     seen.fill(NO_ARC);
     let mut event = v;
     let mut count = 0;
@@ -133,7 +141,7 @@ fn trace<K: Kind>(
         let arc = rows[(n - 1 - count) * n + event];
         path[count] = arc;
         count += 1;
-        event = arcs[arc as usize].from as usize;
+        event = kept.arcs[arc as usize].from as usize;
     }
     (seen[event] as usize, count)
 }
@@ -180,8 +188,7 @@ fn name_ring<K: Kind>(arcs: &[Arc<K>], path: &[u16], ring: &mut [u16])
 
 // The least times of a network, or a ring.
 fn solve<K: Kind>(
-    floors: &[K],
-    arcs: &[Arc<K>],
+    kept: &Kept<'_, K>,
     times: &mut [K],
     next: &mut [K],
     rows: &mut [u16],
@@ -189,18 +196,15 @@ fn solve<K: Kind>(
     seen: &mut [u16],
     ring: &mut [u16],
 ) -> Option<usize>
-    requires few { length floors.now ≤ 1024 }
-    requires lengths { (length times.old ≡ length floors.now) × ((length next.old ≡ length floors.now) × ((length rows.old ≡ length floors.now * length floors.now) × ((length path.old ≡ length floors.now) × (length seen.old ≡ length floors.now)))) }
-    requires room { length floors.now ≤ length ring.old }
-    requires sound { Sound K.Kind.time (length floors.now) arcs.now }
-    requires sized { Sized K.Kind.time 110000000 floors.now }
-    ensures { Solved K.Kind.time floors.now arcs.now times.new ring.old ring.new result }
+    requires lengths { (length times.old ≡ length kept.now.floors.now) × ((length next.old ≡ length kept.now.floors.now) × ((length rows.old ≡ length kept.now.floors.now * length kept.now.floors.now) × ((length path.old ≡ length kept.now.floors.now) × (length seen.old ≡ length kept.now.floors.now)))) }
+    requires room { length kept.now.floors.now ≤ length ring.old }
+    ensures { Solved K.Kind.time kept.now.floors.now kept.now.arcs.now times.new ring.old ring.new result }
 {
-    match settle(floors, arcs, times, next, rows) {
+    match settle(kept, times, next, rows) {
         None => None,
         Some(v) => {
-            let (start, end) = trace(floors, arcs, rows, v, path, seen);
-            name_ring(arcs, &path[start..end], ring);
+            let (start, end) = trace(kept, rows, v, path, seen);
+            name_ring(kept.arcs, &path[start..end], ring);
             Some(end - start)
         }
     }
@@ -277,14 +281,16 @@ fn check_lengths(
     Ok(())
 }
 
-// Whether the network keeps its limits.
-fn check_network<K: Kind>(
+// The network, if it keeps its limits. Of the floors and the arcs as many are given as are counted, up to the limits.
+fn check_network<'n, K: Kind>(
     events: usize,
+    floors: &'n [K],
     arc_count: usize,
-    floors: &[K],
-    arcs: &[Arc<K>],
-) -> Result<(), NetworkFault>
-    ensures { Answers network_number network_place (network_rows K.Kind.time events arc_count floors.now arcs.now) result }
+    arcs: &'n [Arc<K>],
+) -> Result<Kept<'n, K>, NetworkFault>
+    requires counted { (length floors.now ≡ min events 1024) × (length arcs.now ≡ min arc_count 9728) }
+    ensures answer { Answers network_number network_place (network_rows K.Kind.time events arc_count floors.now arcs.now) result }
+    ensures kept { IfOk result (λ k. (k.floors.now ≡ floors.now) × (k.arcs.now ≡ arcs.now)) }
 {
     if let Some(place) = stray(events, arcs) {
         return Err(NetworkFault::Event { place });
@@ -301,76 +307,65 @@ fn check_network<K: Kind>(
     if arc_count > ARCS {
         return Err(NetworkFault::Count);
     }
-    Ok(())
+    Ok(Kept { floors, arcs })
 }
 
-// Whether reckon is handed what it can reckon.
-fn check<K: Kind>(
-    events: usize,
-    arc_count: usize,
-    floors: &[K],
-    arcs: &[Arc<K>],
+// The network that is listed, if reckon is handed what it can reckon.
+fn check<'n, K: Kind>(
+    listing: Listing<'n, K>,
     times: usize,
     ring: usize,
     tables: usize,
     marks: usize,
-) -> Result<(), NetworkFault>
-    ensures { Answers network_number network_place (first_rows K.Kind.time (handed events arc_count floors.now arcs.now times ring tables marks)) result }
+) -> Result<Kept<'n, K>, NetworkFault>
+    ensures answer { Answers network_number network_place (first_rows K.Kind.time (handed (listed listing.entry) times ring tables marks)) result }
+    ensures kept { IfOk result (λ k. (k.floors.now ≡ kept_floors (listed listing.entry)) × (k.arcs.now ≡ kept_arcs (listed listing.entry))) }
 {
+    let Listing {
+        events,
+        floors,
+        arc_count,
+        arcs,
+    } = listing;
     check_lengths(floors.len(), arcs.len(), times, ring, tables, marks)?;
     let (kept_floors, _) = floors.split_at(events.min(EVENTS));
     let (kept_arcs, _) = arcs.split_at(arc_count.min(ARCS));
-    check_network(events, arc_count, kept_floors, kept_arcs)
+    check_network(events, kept_floors, arc_count, kept_arcs)
 }
 
 /// The least times of a network, or the ring that forbids them.
 ///
-/// The network is the first `events` floors and the first `arc_count` arcs. Taken, the front of `times` holds the least times and
-/// everything else but working memory (`tables`, `marks`) is as it was. Refused, working memory alone has changed; for a ring its
-/// events also fill the front of `ring`, in arc order from the smallest.
+/// Taken, the front of `times` holds the least times and everything else but working memory (`tables`, `marks`) is as it was.
+/// Refused, working memory alone has changed; for a ring its events also fill the front of `ring`, in arc order from the smallest.
 pub fn reckon<K: Kind>(
-    events: usize,
-    arc_count: usize,
-    floors: &[K],
-    arcs: &[Arc<K>],
+    listing: Listing<'_, K>,
     times: &mut [K],
     ring: &mut [u16],
     tables: &mut [K],
     marks: &mut [u16],
 ) -> Result<(), NetworkFault>
-    ensures answer { Answers network_number network_place (reckon_rows K.Kind.time (handed events arc_count floors.now arcs.now (length times.old) (length ring.old) (length tables.old) (length marks.old))) result }
-    ensures times { TimesHold K.Kind.time events arc_count floors.now arcs.now times.old times.new result }
-    ensures ring { RingHolds K.Kind.time events arc_count arcs.now ring.old ring.new result }
-    ensures exactly { RingExactly K.Kind.time (handed events arc_count floors.now arcs.now (length times.old) (length ring.old) (length tables.old) (length marks.old)) }
+    ensures answer { Answers network_number network_place (reckon_rows K.Kind.time (handed (listed listing.entry) (length times.old) (length ring.old) (length tables.old) (length marks.old))) result }
+    ensures times { TimesHold K.Kind.time (listed listing.entry) times.old times.new result }
+    ensures ring { RingHolds K.Kind.time (listed listing.entry) ring.old ring.new result }
+    ensures exactly { RingExactly K.Kind.time (handed (listed listing.entry) (length times.old) (length ring.old) (length tables.old) (length marks.old)) }
 {
-    check(
-        events,
-        arc_count,
-        floors,
-        arcs,
-        times.len(),
-        ring.len(),
-        tables.len(),
-        marks.len(),
-    )?;
-    let (kept_floors, _) = floors.split_at(events);
-    let (kept_arcs, _) = arcs.split_at(arc_count);
+    let kept = check(listing, times.len(), ring.len(), tables.len(), marks.len())?;
+    let n = kept.floors.len();
     let (now, next) = tables.split_at_mut(EVENTS);
     let (rows, more) = marks.split_at_mut(EVENTS * EVENTS);
     let (path, seen) = more.split_at_mut(EVENTS);
-    let table = &mut now[0..events];
+    let table = &mut now[0..n];
     match solve(
-        kept_floors,
-        kept_arcs,
+        &kept,
         table,
-        &mut next[0..events],
-        &mut rows[0..events * events],
-        &mut path[0..events],
-        &mut seen[0..events],
+        &mut next[0..n],
+        &mut rows[0..n * n],
+        &mut path[0..n],
+        &mut seen[0..n],
         ring,
     ) {
         None => {
-            let front = &mut times[0..events];
+            let front = &mut times[0..n];
             front.copy_from_slice(table);
             Ok(())
         }

@@ -3,7 +3,7 @@
 
 use anyhow::anyhow;
 use kinds::{Changes, Kind, Seconds};
-use network::{ARCS, Arc, EVENTS, MARKS, NetworkFault, TABLES, reckon};
+use network::{ARCS, Arc, EVENTS, Listing, MARKS, NetworkFault, TABLES, reckon};
 use std::alloc::{AllocError, Global};
 use std::io::{BufRead, BufReader};
 use std::str::SplitWhitespace;
@@ -82,11 +82,14 @@ impl<K: Written> Sheet<K> {
         let mut ring = vec![in heap; 0u16; EVENTS]?;
         let mut tables = vec![in heap; none; TABLES]?;
         let mut marks = vec![in heap; 0u16; MARKS]?;
+        let listing = Listing {
+            events: self.events,
+            floors: self.floors.as_slice(),
+            arc_count: self.arc_count,
+            arcs: self.arcs.as_slice(),
+        };
         match reckon(
-            self.events,
-            self.arc_count,
-            self.floors.as_slice(),
-            self.arcs.as_slice(),
+            listing,
             times.as_mut_slice(),
             ring.as_mut_slice(),
             tables.as_mut_slice(),

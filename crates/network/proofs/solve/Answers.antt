@@ -9,13 +9,14 @@ use Rattle.network.proofs.solve.Goals as goal
 pub returns-in-None : goal.returns-in-None
 returns-in-None g c =
     let laws = g.met.K.Kind.laws in
+    let limits = c.args.kept.now.limits in
     let s = c.in-None.ensures in
-    (settled_least laws _ _ c.requires.sound c.requires.sized c.requires.few _ s, settled_no_ring laws _ _ c.requires.sound c.requires.sized c.requires.few _ s, refl)
+    (settled_least laws _ _ limits _ s, settled_no_ring laws _ _ limits _ s, refl)
 
 pub name_ring-requires : goal.name_ring-requires
 name_ring-requires g c =
     let t = g.K.Kind.time in
-    let arcs = c.args.arcs.now in
+    let arcs = c.args.kept.now.arcs.now in
     let path = c.trace-start.new.path in
     let s = c.trace-start.result.0 in
     let e = c.trace-start.result.1 in
@@ -33,8 +34,9 @@ name_ring-requires g c =
 pub returns-in-Some : goal.returns-in-Some
 returns-in-Some g c =
     let laws = g.met.K.Kind.laws in
+    let limits = c.args.kept.now.limits in
     let t = g.K.Kind.time in
-    let arcs = c.args.arcs.now in
+    let arcs = c.args.kept.now.arcs.now in
     let path = c.trace-start.new.path in
     let s = c.trace-start.result.0 in
     let e = c.trace-start.result.1 in
@@ -46,4 +48,4 @@ returns-in-Some g c =
     let ring : Ring t (placed t arcs) (take (e - s) (drop s path)) = subst P (part_is path s e low) r.2 in
     let Q : ℕ → Type 0 = λ m. Names t (placed t arcs) (take m c.name_ring.new.ring) in
     let R : ℕ → Type 0 = λ m. drop m c.name_ring.new.ring ≡ drop m c.args.ring.now in
-    (subst Q long (named laws (length c.args.floors.now) arcs c.requires.sound _ _ c.requires.few ring c.name_ring.ensures.turned), ring_no_table laws _ _ c.requires.sound c.requires.sized c.requires.few _ ring, subst R long c.name_ring.ensures.rest, omega arith)
+    (subst Q long (named laws (length c.args.kept.now.floors.now) arcs limits.sound _ _ limits.few ring c.name_ring.ensures.turned), ring_no_table laws _ _ limits _ ring, subst R long c.name_ring.ensures.rest, omega arith)
