@@ -1,7 +1,7 @@
 -- One turn of the trace.
-use Rattle.std.proofs.Common.{◌≡◌, ℕ, ◌+◌, ◌-◌, ◌*◌, ◌<◌, ◌≤◌, List, length, get_or, take, drop, set, sym, ◌∙◌, inl, inr, arith}
+use Rattle.std.proofs.Common.{◌≡◌, ℕ, ◌+◌, ◌-◌, ◌*◌, ◌<◌, ◌≤◌, List, length, get_or, take, drop, set, sym, ap, ◌∙◌, inl, inr, arith}
 use Rattle.std.proofs.lemmas.Nat.{mul-add-lt}
-use Rattle.std.proofs.lemmas.List.{get_or-take, get_or-drop, get_or_default}
+use Rattle.std.proofs.lemmas.List.{get_or-take, get_or-drop, get_or_default, drop-take}
 use Rattle.kinds.specs.Time.{Time, Laws}
 use Rattle.network.specs.declared.Arc.{Arc}
 use Rattle.network.specs.Network.{Ring}
@@ -12,6 +12,12 @@ use Rattle.network.proofs.Marks.{Mark, Marks, marks_more, room}
 
 row_read : (n : ℕ) (rows : List ℕ) (k u : ℕ) → u < n → get_or rows (k * n + u) 0 ≡ get_or (row_of n rows k) u 0
 row_read n rows k u h = sym (get_or-take n (drop (k * n) rows) u 0 h ∙ get_or-drop (k * n) rows u 0)
+
+-- the part of a path from s up to e
+part_is : (path : List ℕ) (s e : ℕ) → s < e → drop s (take e path) ≡ take (e - s) (drop s path)
+part_is path s e h =
+    let q : s + (e - s) ≡ e = omega arith in
+    ap (λ i. drop s (take i path)) (sym q) ∙ drop-take s (e - s) path
 
 -- all that holds as a turn begins
 pub record Turn {K : Type 0} (t : Time K) (floors : List K) (arcs : List (Arc K)) (rows path seen : List ℕ) (v i u : ℕ) : Type 0 where
@@ -60,9 +66,9 @@ module _ {K : Type 0} {t : Time K} {floors : List K} {arcs : List (Arc K)} {rows
         marks_more arcs (length floors) seen path i u c.limits.few c.seen_long c.traced.inside fresh (omega arith) c.low c.marks _ in_path end
 
   -- the trace ends at a marked event
-  ended_by : (s : ℕ) → (s ≡ 65535 → ⊥) → Mark t arcs path i u s → (s < i) × (i ≤ length floors) × Ring t (placed t arcs) (drop s (take i path))
+  ended_by : (s : ℕ) → (s ≡ 65535 → ⊥) → Mark t arcs path i u s → (s < i) × (i ≤ length floors) × Ring t (placed t arcs) (take (i - s) (drop s path))
   ended_by s ne (inl p) = absurd (ne p)
-  ended_by s ne (inr p) = let l = c.path_long in let q = c.low in (p.0, c.low, ring_is c.laws floors arcs c.limits rows path v i u s c.traced p.0 (omega arith) p.1 (λ e. get_or seen e 0) c.marks.mark)
+  ended_by s ne (inr p) = let l = c.path_long in let q = c.low in (p.0, c.low, rw (part_is path s i p.0) at (ring_is c.laws floors arcs c.limits rows path v i u s c.traced p.0 (omega arith) p.1 (λ e. get_or seen e 0) c.marks.mark))
 
-  pub turn_ends : (get_or seen u 0 ≡ 65535 → ⊥) → (get_or seen u 0 < i) × (i ≤ length floors) × Ring t (placed t arcs) (drop (get_or seen u 0) (take i path))
+  pub turn_ends : (get_or seen u 0 ≡ 65535 → ⊥) → (get_or seen u 0 < i) × (i ≤ length floors) × Ring t (placed t arcs) (take (i - get_or seen u 0) (drop (get_or seen u 0) path))
   turn_ends ne = ended_by (get_or seen u 0) ne (c.marks.back u c.traced.inside)

@@ -1,6 +1,6 @@
 -- Inner words of the reckoning: one round of raising times, and the memory of rows by which a rise is traced back. No public
 -- promise speaks of them. Assumes nothing.
-use Rattle.std.specs.Prelude.{◌≡◌, ℕ, ◌+◌, ◌-◌, ◌*◌, ◌<◌, ◌≤◌, ◌⊎◌, List, ◌++◌, reverse, length, take, drop, Some, None, Option, slice_index, slice_index_or}
+use Rattle.std.specs.Prelude.{◌≡◌, ℕ, ◌+◌, ◌-◌, ◌*◌, ◌<◌, ◌≤◌, ◌⊎◌, List, ◌++◌, reverse, length, take, drop, Ok, Err, Result, slice_index, slice_index_or}
 use Rattle.std.specs.List.{AllByRecursion}
 use Rattle.kinds.specs.Time.{Time}
 use Rattle.network.specs.declared.Arc.{Arc}
@@ -10,6 +10,13 @@ use Rattle.network.specs.Reckoning.{at, arc_at, placed, network_of}
 -- row j of a memory of rows of n places
 abbrev pub row_of : ℕ → List ℕ → ℕ → List ℕ
 row_of n rows j = take n (drop (j * n) rows)
+
+-- how long the tables and rows of working memory are
+pub record SpaceLengths (now_long next_long rows_long path_long seen_long : ℕ) : Type 0 where
+  pub next : next_long ≡ now_long
+  pub rows : rows_long ≡ now_long * now_long
+  pub path : path_long ≡ now_long
+  pub seen : seen_long ≡ now_long
 
 module _ {K : Type 0} (t : Time K) where
   -- arcs that join events, few enough that a number tells each, and none over its size
@@ -78,7 +85,7 @@ module _ {K : Type 0} (t : Time K) where
     pub named : events ≡ back ++ front
     pub smallest : AllByRecursion (λ v. slice_index events 0 ≤ v) events
 
-  -- what solving answers: no number and the least times, or how many events of a ring stand at the front of ring memory
-  abbrev pub Solved : List K → List (Arc K) → List K → List ℕ → List ℕ → Option ℕ → Type 0
-  Solved floors arcs times was ring None = Least t (network_of t floors arcs) (at t times) × (HasRing t (placed t arcs) → ⊥) × (ring ≡ was)
-  Solved floors arcs times was ring (Some m) = Names t (placed t arcs) (take m ring) × NoTable t (network_of t floors arcs) × (drop m ring ≡ drop m was) × (m ≤ length floors)
+  -- What solving leaves: the least times and no ring, or a ring's events at the front of ring memory, and how many.
+  abbrev pub Solved : List K → List (Arc K) → List K → List K → List ℕ → List ℕ → Result (Unit {0}) ℕ → Type 0
+  Solved floors arcs was times ring_was ring (Ok x) = Least t (network_of t floors arcs) (at t times) × (HasRing t (placed t arcs) → ⊥) × (ring ≡ ring_was)
+  Solved floors arcs was times ring_was ring (Err m) = Names t (placed t arcs) (take m ring) × NoTable t (network_of t floors arcs) × (drop m ring ≡ drop m ring_was) × (m ≤ length floors) × (times ≡ was)

@@ -1,14 +1,15 @@
 //! Networks of events and arcs over any kind of time: the least times, or the ring that forbids them.
 #![tactic(auto)]
 
-ghost use Rattle.std.specs.Prelude.{◌≡◌, ℕ, ◌+◌, ◌-◌, ◌*◌, ◌<◌, ◌≤◌, reverse, length, take, drop, Some, None, Decides, MatchOption, ◌≢◌, slice_index, min, IfOk};
+ghost use Rattle.std.specs.Prelude.{◌≡◌, ℕ, ◌+◌, ◌-◌, ◌*◌, ◌<◌, ◌≤◌, reverse, length, take, drop, Some, None, Decides, MatchOption, ◌≢◌, slice_index, slice_range, min, IfOk};
 ghost use Rattle.network.specs.Network.{Least, Ring, Names, HasRing, ends};
 ghost use Rattle.network.specs.Refusals.{Passed, Answers};
 ghost use Rattle.network.specs.Faults.{network_number, network_place};
 ghost use Rattle.network.specs.Reckoning.{at, placed, network_of, SomeOf, Stray, first_stray, lengths, length_rows, network_rows, listed, kept_floors, kept_arcs, handed, first_rows, reckon_rows, TimesHold, RingHolds, RingExactly};
-ghost use Rattle.network.specs.Rounds.{InLimits, Sized, Round, Settled, Rising, Turned, Solved};
+ghost use Rattle.network.specs.Rounds.{InLimits, Sized, Round, Settled, Rising, Turned, SpaceLengths, Solved};
 
 use kinds::Kind;
+use std::ops::Range;
 
 mod faults;
 
@@ -54,6 +55,37 @@ struct Kept<'n, K: Kind> {
     floors: &'n [K],
     arcs: &'n [Arc<K>],
     ghost limits: { InLimits K.Kind.time floors.now arcs.now },
+}
+
+// The working memory of a network: two tables of times, a row of marks for each round, and two rows of marks to trace a ring by.
+#[derive(Drop)]
+struct Workspace<'w, K> {
+    now: &'w mut [K],
+    next: &'w mut [K],
+    rows: &'w mut [u16],
+    path: &'w mut [u16],
+    seen: &'w mut [u16],
+    ghost lengths: { SpaceLengths (length now.now) (length next.now) (length rows.now) (length path.now) (length seen.now) },
+}
+
+impl<'w, K: Kind> Workspace<'w, K> {
+    // What a network of `events` events takes of working memory.
+    fn of(events: usize, tables: &'w mut [K], marks: &'w mut [u16]) -> Workspace<'w, K>
+        requires few { events ≤ 1024 }
+        requires lengths { (length tables.old ≡ 2048) × (length marks.old ≡ 1050624) }
+        ensures { length result.now.now ≡ events }
+    {
+        let (now, next) = tables.split_at_mut(EVENTS);
+        let (rows, more) = marks.split_at_mut(EVENTS * EVENTS);
+        let (path, seen) = more.split_at_mut(EVENTS);
+        Workspace {
+            now: &mut now[..events],
+            next: &mut next[..events],
+            rows: &mut rows[..events * events],
+            path: &mut path[..events],
+            seen: &mut seen[..events],
+        }
+    }
 }
 
 // One round: each event's new time is the latest of its old one and of what its arcs bring.
@@ -119,18 +151,18 @@ fn settle<K: Kind>(
     None
 }
 
-// Traces the rise of `v` in the last round back until an event comes twice. The ring's arcs stand in `path`, the last first,
-// from the first place of the result up to the second.
+// Traces the rise of `v` in the last round back until an event comes twice. The ring's arcs stand in the result's range of `path`,
+// the last first.
 fn trace<K: Kind>(
     kept: &Kept<'_, K>,
     rows: &[u16],
     v: usize,
     path: &mut [u16],
     seen: &mut [u16],
-) -> (usize, usize)
+) -> Range<usize>
     requires lengths { (length rows.now ≡ length kept.now.floors.now * length kept.now.floors.now) × ((length path.old ≡ length kept.now.floors.now) × (length seen.old ≡ length kept.now.floors.now)) }
     requires rising { Rising K.Kind.time kept.now.floors.now kept.now.arcs.now rows.now v }
-    ensures { (result.0 < result.1) × (result.1 ≤ length kept.now.floors.now) × Ring K.Kind.time (placed K.Kind.time kept.now.arcs.now) (drop result.0 (take result.1 path.new)) }
+    ensures { (result.start < result.end) × (result.end ≤ length kept.now.floors.now) × Ring K.Kind.time (placed K.Kind.time kept.now.arcs.now) (slice_range path.new result.start result.end) }
 {
     let n = kept.floors.len();
     seen.fill(NO_ARC);
@@ -143,7 +175,7 @@ fn trace<K: Kind>(
         count += 1;
         event = kept.arcs[arc as usize].from as usize;
     }
-    (seen[event] as usize, count)
+    seen[event] as usize..count
 }
 
 // The place of the smallest number.
@@ -186,26 +218,34 @@ fn name_ring<K: Kind>(arcs: &[Arc<K>], path: &[u16], ring: &mut [u16])
     front.rotate_left(first);
 }
 
-// The least times of a network, or a ring.
+// The least times of a network, or a ring and how many events it has.
 fn solve<K: Kind>(
     kept: &Kept<'_, K>,
+    space: Workspace<'_, K>,
     times: &mut [K],
-    next: &mut [K],
-    rows: &mut [u16],
-    path: &mut [u16],
-    seen: &mut [u16],
     ring: &mut [u16],
-) -> Option<usize>
-    requires lengths { (length times.old ≡ length kept.now.floors.now) × ((length next.old ≡ length kept.now.floors.now) × ((length rows.old ≡ length kept.now.floors.now * length kept.now.floors.now) × ((length path.old ≡ length kept.now.floors.now) × (length seen.old ≡ length kept.now.floors.now)))) }
+) -> Result<(), usize>
+    requires lengths { (length space.now.now ≡ length kept.now.floors.now) × (length times.old ≡ length kept.now.floors.now) }
     requires room { length kept.now.floors.now ≤ length ring.old }
-    ensures { Solved K.Kind.time kept.now.floors.now kept.now.arcs.now times.new ring.old ring.new result }
+    ensures { Solved K.Kind.time kept.now.floors.now kept.now.arcs.now times.old times.new ring.old ring.new result }
 {
-    match settle(kept, times, next, rows) {
-        None => None,
+    let Workspace {
+        now,
+        next,
+        rows,
+        path,
+        seen,
+    } = space;
+    match settle(kept, now, next, rows) {
+        None => {
+            times.copy_from_slice(now);
+            Ok(())
+        }
         Some(v) => {
-            let (start, end) = trace(kept, rows, v, path, seen);
-            name_ring(kept.arcs, &path[start..end], ring);
-            Some(end - start)
+            let circuit = trace(kept, rows, v, path, seen);
+            let path = &path[circuit];
+            name_ring(kept.arcs, path, ring);
+            Err(path.len())
         }
     }
 }
@@ -351,24 +391,9 @@ pub fn reckon<K: Kind>(
 {
     let kept = check(listing, times.len(), ring.len(), tables.len(), marks.len())?;
     let n = kept.floors.len();
-    let (now, next) = tables.split_at_mut(EVENTS);
-    let (rows, more) = marks.split_at_mut(EVENTS * EVENTS);
-    let (path, seen) = more.split_at_mut(EVENTS);
-    let table = &mut now[0..n];
-    match solve(
-        &kept,
-        table,
-        &mut next[0..n],
-        &mut rows[0..n * n],
-        &mut path[0..n],
-        &mut seen[0..n],
-        ring,
-    ) {
-        None => {
-            let front = &mut times[0..n];
-            front.copy_from_slice(table);
-            Ok(())
-        }
-        Some(count) => Err(NetworkFault::Ring { count }),
+    let space = Workspace::of(n, tables, marks);
+    match solve(&kept, space, &mut times[..n], ring) {
+        Ok(()) => Ok(()),
+        Err(count) => Err(NetworkFault::Ring { count }),
     }
 }
