@@ -4,6 +4,8 @@ use Rattle.std.specs.Prelude.{◌≡◌, ℕ, ◌+◌, ◌-◌, ◌*◌, ◌<◌
 use Rattle.std.specs.List.{AllByRecursion}
 use Rattle.kinds.specs.Time.{Time}
 use Rattle.network.specs.declared.Arc.{Arc}
+use Rattle.network.specs.declared.faults.NetworkFault.{NetworkFault}
+use Rattle.network.specs.declared.faults.NetworkFault.TheVariants as fault
 use Rattle.network.specs.Network.{UpTo, After, LatestWalks, ends, Least, HasRing, Names, NoTable}
 use Rattle.network.specs.Reckoning.{at, arc_at, placed, network_of}
 
@@ -85,7 +87,16 @@ module _ {K : Type 0} (t : Time K) where
     pub named : events ≡ back ++ front
     pub smallest : AllByRecursion (λ v. slice_index events 0 ≤ v) events
 
-  -- What solving leaves: the least times and no ring, or a ring's events at the front of ring memory, and how many.
-  abbrev pub Solved : List K → List (Arc K) → List K → List K → List ℕ → List ℕ → Result (Unit {0}) ℕ → Type 0
+  -- the refusal of a ring, whose events stand at the front of ring memory
+  pub record Refused (floors : List K) (arcs : List (Arc K)) (was ring : List ℕ) (f : NetworkFault) : Type 0 where
+    pub count : ℕ
+    pub is : f ≡ fault.Ring count
+    pub names : Names t (placed t arcs) (take count ring)
+    pub none : NoTable t (network_of t floors arcs)
+    pub rest : drop count ring ≡ drop count was
+    pub few : count ≤ length floors
+
+  -- what solving leaves: the least times and no ring, or a ring
+  abbrev pub Solved : List K → List (Arc K) → List K → List K → List ℕ → List ℕ → Result (Unit {0}) NetworkFault → Type 0
   Solved floors arcs was times ring_was ring (Ok x) = Least t (network_of t floors arcs) (at t times) × (HasRing t (placed t arcs) → ⊥) × (ring ≡ ring_was)
-  Solved floors arcs was times ring_was ring (Err m) = Names t (placed t arcs) (take m ring) × NoTable t (network_of t floors arcs) × (drop m ring ≡ drop m ring_was) × (m ≤ length floors) × (times ≡ was)
+  Solved floors arcs was times ring_was ring (Err f) = Refused floors arcs ring_was ring f × (times ≡ was)

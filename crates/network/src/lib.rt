@@ -218,13 +218,13 @@ fn name_ring<K: Kind>(arcs: &[Arc<K>], path: &[u16], ring: &mut [u16])
     front.rotate_left(first);
 }
 
-// The least times of a network, or a ring and how many events it has.
+// The least times of a network, or a ring.
 fn solve<K: Kind>(
     kept: &Kept<'_, K>,
     space: Workspace<'_, K>,
     times: &mut [K],
     ring: &mut [u16],
-) -> Result<(), usize>
+) -> Result<(), NetworkFault>
     requires lengths { (length space.now.now ≡ length kept.now.floors.now) × (length times.old ≡ length kept.now.floors.now) }
     requires room { length kept.now.floors.now ≤ length ring.old }
     ensures { Solved K.Kind.time kept.now.floors.now kept.now.arcs.now times.old times.new ring.old ring.new result }
@@ -245,7 +245,7 @@ fn solve<K: Kind>(
             let circuit = trace(kept, rows, v, path, seen);
             let path = &path[circuit];
             name_ring(kept.arcs, path, ring);
-            Err(path.len())
+            Err(NetworkFault::Ring { count: path.len() })
         }
     }
 }
@@ -392,8 +392,5 @@ pub fn reckon<K: Kind>(
     let kept = check(listing, times.len(), ring.len(), tables.len(), marks.len())?;
     let n = kept.floors.len();
     let space = Workspace::of(n, tables, marks);
-    match solve(&kept, space, &mut times[..n], ring) {
-        Ok(()) => Ok(()),
-        Err(count) => Err(NetworkFault::Ring { count }),
-    }
+    solve(&kept, space, &mut times[..n], ring)
 }

@@ -31,5 +31,5 @@ returns g c =
           (let r = w.trace-circuit.ensures in
           let high = r.1 in
           let long = part_long w.trace-circuit.new.path w.trace-circuit.result.start w.trace-circuit.result.end (omega arith) in
-          rw (w.times-is, w.ring-is, w.result-is) (named laws (length c.args.kept.now.floors.now) _ limits.sound _ _ limits.few r.2 w.name_ring.ensures.turned, ring_no_table laws _ _ limits _ r.2, w.name_ring.ensures.rest, omega arith, refl))
+          rw (w.times-is, w.ring-is, w.result-is) (record { count = _; is = refl; names = named laws (length c.args.kept.now.floors.now) _ limits.sound _ _ limits.few r.2 w.name_ring.ensures.turned; none = ring_no_table laws _ _ limits _ r.2; rest = w.name_ring.ensures.rest; few = omega arith }, refl))
     ]
