@@ -1,5 +1,6 @@
 -- What reckon is handed, its refusals, and what each memory holds when it returns. Assumes nothing.
 use Rattle.std.specs.Prelude.{◌≡◌, ℕ, ◌<◌, ◌≤◌, cond, ◌⊎◌, List, [], ◌∷◌, ◌++◌, length, take, drop, Ok, Err, Result, ◌≢◌, nat_lt, slice_index_or}
+use Rattle.std.specs.List.{Any}
 use Rattle.kinds.specs.Time.{Time}
 use Rattle.network.specs.declared.Arc.{Arc}
 use Rattle.network.specs.declared.Listing.{Listing}
@@ -7,11 +8,6 @@ use Rattle.network.specs.declared.faults.NetworkFault.{NetworkFault}
 use Rattle.network.specs.declared.faults.NetworkFault.TheVariants as fault
 use Rattle.network.specs.Network.{Arcs, Network, Least, NoTable, HasRing, Names}
 use Rattle.network.specs.Refusals.{Row, row, Passed}
-
--- one of the elements has the property
-abbrev pub SomeOf : {X : Type 0} → (X → Type 0) → List X → Type 0
-SomeOf P [] = ⊥
-SomeOf P (x ∷ xs) = P x ⊎ SomeOf P xs
 
 module _ {K : Type 0} (t : Time K) where
   -- the value of event v in a memory of times
@@ -97,9 +93,9 @@ module _ {K : Type 0} where
     -- what the network itself can break
     abbrev pub network_rows : ℕ → ℕ → List K → List (Arc K) → List Row
     network_rows events arc_count floors arcs =
-        row 3 (first_stray events arcs) (SomeOf (Stray events) arcs)
-        ∷ row 4 0 (SomeOf (λ x. 110000000 < t.size x) floors)
-        ∷ row 5 0 (SomeOf (λ a. 100000 < t.size a.duration) arcs)
+        row 3 (first_stray events arcs) (Any (Stray events) arcs)
+        ∷ row 4 0 (Any (λ x. 110000000 < t.size x) floors)
+        ∷ row 5 0 (Any (λ a. 100000 < t.size a.duration) arcs)
         ∷ row 6 0 (1024 < events)
         ∷ row 6 0 (9728 < arc_count)
         ∷ []

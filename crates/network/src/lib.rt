@@ -2,10 +2,11 @@
 #![tactic(auto)]
 
 ghost use Rattle.std.specs.Prelude.{◌≡◌, ℕ, ◌+◌, ◌-◌, ◌*◌, ◌<◌, ◌≤◌, reverse, length, take, drop, Some, None, Decides, MatchOption, ◌≢◌, slice_index, slice_range, min, IfOk};
+ghost use Rattle.std.specs.List.{Any};
 ghost use Rattle.network.specs.Network.{Least, Ring, Names, HasRing, ends};
 ghost use Rattle.network.specs.Refusals.{Passed, Answers};
 ghost use Rattle.network.specs.Faults.{network_number, network_place};
-ghost use Rattle.network.specs.Reckoning.{at, placed, network_of, SomeOf, Stray, first_stray, lengths, length_rows, network_rows, listed, kept_floors, kept_arcs, handed, first_rows, reckon_rows, TimesHold, RingHolds, RingExactly};
+ghost use Rattle.network.specs.Reckoning.{at, placed, network_of, Stray, first_stray, lengths, length_rows, network_rows, listed, kept_floors, kept_arcs, handed, first_rows, reckon_rows, TimesHold, RingHolds, RingExactly};
 ghost use Rattle.network.specs.Rounds.{InLimits, Sized, Round, Settled, Rising, Turned, SpaceLengths, Solved};
 
 use kinds::Kind;
@@ -114,12 +115,7 @@ fn round<K: Kind>(kept: &Kept<'_, K>, old: &[K], new: &mut [K], from: &mut [u16]
 fn first_raised(row: &[u16]) -> Option<usize>
     ensures { elim result [ None ↦ ((v : ℕ) → v < length row.now → slice_index row.now v ≡ 65535) | Some v ↦ (v < length row.now) × (slice_index row.now v ≢ 65535) ] }
 {
-    for (v, arc) in row.iter().enumerate() {
-        if *arc != NO_ARC {
-            return Some(v);
-        }
-    }
-    None
+    row.iter().position(|arc| *arc != NO_ARC)
 }
 
 // Raises the floors round by round until nothing changes; answers an event that still rises in the last round.
@@ -183,13 +179,10 @@ fn smallest(xs: &[u16]) -> usize
     requires { 0 < length xs.now }
     ensures { (result < length xs.now) × ((k : ℕ) → k < length xs.now → slice_index xs.now result ≤ slice_index xs.now k) }
 {
-    let mut first = 0;
-    for k in 1..xs.len() {
-        if xs[k] < xs[first] {
-            first = k;
-        }
+    match xs.iter().enumerate().min_by_key(|(_, x)| **x) {
+        Some((place, _)) => place,
+        None => unreachable(),
     }
-    first
 }
 
 // Writes the ends of the arcs at the places of `path`, which stand last first, in arc order.
@@ -198,6 +191,7 @@ fn list_ends<K: Kind>(arcs: &[Arc<K>], path: &[u16], ring: &mut [u16])
     requires known { (p : ℕ) → p < length path.now → slice_index path.now p < length arcs.now }
     ensures { ring.new ≡ reverse (ends K.Kind.time (placed K.Kind.time arcs.now) path.now) }
 {
+    // Stays: `ring.iter_mut().zip(path)` was tried, and the proof didn't close: it learns nothing of what an adapter of `iter_mut` writes.
     for (j, place) in path.iter().enumerate() {
         ring[j] = arcs[*place as usize].to;
     }
@@ -252,7 +246,7 @@ fn solve<K: Kind>(
 
 // The first number in the arcs that names no event.
 fn stray<K: Kind>(events: usize, arcs: &[Arc<K>]) -> Option<u16>
-    ensures { MatchOption result (SomeOf (Stray events) arcs.now → ⊥) (λ p. SomeOf (Stray events) arcs.now × (p ≡ first_stray events arcs.now)) }
+    ensures { MatchOption result (Any (Stray events) arcs.now → ⊥) (λ p. Any (Stray events) arcs.now × (p ≡ first_stray events arcs.now)) }
 {
     for arc in arcs {
         if arc.from as usize >= events {
@@ -267,26 +261,16 @@ fn stray<K: Kind>(events: usize, arcs: &[Arc<K>]) -> Option<u16>
 
 // Whether a floor is over its size.
 fn floor_over<K: Kind>(floors: &[K]) -> bool
-    ensures { Decides result (SomeOf (λ x. 110000000 < K.Kind.time.size x) floors.now) }
+    ensures { Decides result (Any (λ x. 110000000 < K.Kind.time.size x) floors.now) }
 {
-    for floor in floors {
-        if floor.size() > FLOOR_SIZE {
-            return true;
-        }
-    }
-    false
+    floors.iter().any(|floor| floor.size() > FLOOR_SIZE)
 }
 
 // Whether a duration is over its size.
 fn duration_over<K: Kind>(arcs: &[Arc<K>]) -> bool
-    ensures { Decides result (SomeOf (λ a. 100000 < K.Kind.time.size a.duration) arcs.now) }
+    ensures { Decides result (Any (λ a. 100000 < K.Kind.time.size a.duration) arcs.now) }
 {
-    for arc in arcs {
-        if arc.duration.size() > DURATION_SIZE {
-            return true;
-        }
-    }
-    false
+    arcs.iter().any(|arc| arc.duration.size() > DURATION_SIZE)
 }
 
 // Whether each memory has its listed length.
@@ -300,22 +284,13 @@ fn check_lengths(
 ) -> Result<(), NetworkFault>
     ensures { Answers network_number network_place (length_rows (lengths floors arcs times ring tables marks)) result }
 {
-    if floors != EVENTS {
-        return Err(NetworkFault::Length);
-    }
-    if arcs != ARCS {
-        return Err(NetworkFault::Length);
-    }
-    if times != EVENTS {
-        return Err(NetworkFault::Length);
-    }
-    if ring != EVENTS {
-        return Err(NetworkFault::Length);
-    }
-    if tables != TABLES {
-        return Err(NetworkFault::Length);
-    }
-    if marks != MARKS {
+    if floors != EVENTS
+        || arcs != ARCS
+        || times != EVENTS
+        || ring != EVENTS
+        || tables != TABLES
+        || marks != MARKS
+    {
         return Err(NetworkFault::Length);
     }
     Ok(())
