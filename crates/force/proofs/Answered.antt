@@ -34,12 +34,16 @@ last_passed [] y a = a.0
 last_passed (x ∷ xs) y a = last_passed xs y a.1
 
 module _ {K : Type 0} (t : Time K) (R : Register K) (limits : Limits t R) (n m : ℕ) (floors : List K) (arcs : List (Arc K)) (events : n ≡ 2 * length R.runs) (few : m ≤ 9728) (floors_long : length floors ≡ 1024) (arcs_long : length arcs ≡ 9728) (filled : Filled t R floors) (listed : Listed t (InForce t R) arcs m) where
+  -- the network that is handed
+  abbrev network : reckoning.Listed K
+  network = record { events = n; floors = floors; arc_count = m; arcs = arcs }
+
   kept_alike : Alike (network_of t (take n floors) (take m arcs)) (in_force t R)
   kept_alike =
       let P : ℕ → Type 0 = λ k. Alike (network_of t (take k floors) (take m arcs)) (in_force t R) in
       subst P (sym events) (filled_alike t R floors arcs m (omega (arith, limits.few_runs)) (omega arith) filled listed)
 
-  rows_passed : (times ring tables marks : ℕ) → times ≡ 1024 → ring ≡ 1024 → tables ≡ 2048 → marks ≡ 1050624 → Passed (first_rows t (handed n m floors arcs times ring tables marks))
+  rows_passed : (times ring tables marks : ℕ) → times ≡ 1024 → ring ≡ 1024 → tables ≡ 2048 → marks ≡ 1050624 → Passed (first_rows t (handed network times ring tables marks))
   rows_passed times ring tables marks a b c d =
       let few_runs = limits.few_runs in
       let blank : Arc K = record { from = 0; to = 0; duration = t.none } in
@@ -74,7 +78,7 @@ module _ {K : Type 0} (t : Time K) (R : Register K) (limits : Limits t R) (n m :
         ),
       )
 
-  pub times_told : (was times : List K) (r : Result (Unit {0}) NetworkFault) → length times ≡ 1024 → TimesHold t n m floors arcs was times r → TimesAfter t R was times r
+  pub times_told : (was times : List K) (r : Result (Unit {0}) NetworkFault) → length times ≡ 1024 → TimesHold t network was times r → TimesAfter t R was times r
   times_told was times (Ok x) long h =
       let P : ℕ → Type 0 = λ k. drop k times ≡ drop k was in (
         least_same t (in_force t R) (in_force_fit t R limits) (at t (take n times)) (at t times) (λ v l. let inside : v < n = omega arith in get_or-take n times v t.none inside) (least_there t (network_of t (take n floors) (take m arcs)) (in_force t R) kept_alike (at t (take n times)) h.0),
@@ -82,7 +86,7 @@ module _ {K : Type 0} (t : Time K) (R : Register K) (limits : Limits t R) (n m :
       )
   times_told was times (Err f) long h = h
 
-  found : (was ring : List ℕ) (f : NetworkFault) → network_number f ≡ 12 → NoTable t (in_force t R) → reckoning.RingAfter t n (take m arcs) was ring f → RingOnly t R was ring f
+  found : (was ring : List ℕ) (f : NetworkFault) → network_number f ≡ 12 → NoTable t (in_force t R) → reckoning.RingAfter t network was ring f → RingOnly t R was ring f
   found was ring fault.Length e none h = omega arith
   found was ring (fault.Event place) e none h = omega arith
   found was ring fault.Floor e none h = omega arith
@@ -95,13 +99,13 @@ module _ {K : Type 0} (t : Time K) (R : Register K) (limits : Limits t R) (n m :
     few = omega (arith, h.2);
   }
 
-  pub ring_told : (times ring_length tables marks : ℕ) → times ≡ 1024 → ring_length ≡ 1024 → tables ≡ 2048 → marks ≡ 1050624 → (was ring : List ℕ) (r : Result (Unit {0}) NetworkFault) → Answers network_number network_place (reckon_rows t (handed n m floors arcs times ring_length tables marks)) r → RingExactly t (handed n m floors arcs times ring_length tables marks) → RingHolds t n m arcs was ring r → RingAfter t R was ring r
+  pub ring_told : (times ring_length tables marks : ℕ) → times ≡ 1024 → ring_length ≡ 1024 → tables ≡ 2048 → marks ≡ 1050624 → (was ring : List ℕ) (r : Result (Unit {0}) NetworkFault) → Answers network_number network_place (reckon_rows t (handed network times ring_length tables marks)) r → RingExactly t (handed network times ring_length tables marks) → RingHolds t network was ring r → RingAfter t R was ring r
   ring_told times ring_length tables marks a b c d was ring (Ok x) answer exactly h =
-      let H = handed n m floors arcs times ring_length tables marks in
+      let H = handed network times ring_length tables marks in
       let none = last_passed (first_rows t H) (row 12 0 (HasRing t (placed t (take m arcs)))) answer in
       ((λ some. none (ring_there t (arcs_in_force t R) (placed t (take m arcs)) kept_alike.back some)), h)
   ring_told times ring_length tables marks a b c d was ring (Err f) answer exactly h =
-      let H = handed n m floors arcs times ring_length tables marks in
+      let H = handed network times ring_length tables marks in
       let passed = rows_passed times ring_length tables marks a b c d in
       let last = last_row (first_rows t H) (row 12 0 (HasRing t (placed t (take m arcs)))) (network_number f) (network_place f) passed answer in
       found was ring f last.1 (no_table_there t (network_of t (take n floors) (take m arcs)) (in_force t R) kept_alike ((exactly passed).0 last.0)) h

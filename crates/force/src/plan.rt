@@ -7,7 +7,7 @@ ghost use Rattle.force.specs.Work.{WorkListed, SameWork, work_lengths};
 
 use crate::{Work, fill_arcs, fill_floors};
 use kinds::Kind;
-use network::{Arc, NetworkFault, reckon};
+use network::{Arc, Listing, NetworkFault, reckon};
 use records::View;
 
 /// Reckons the constraints in force of what is entered: the least times to the front of `times`, or else a ring's events to the
@@ -34,7 +34,13 @@ pub fn reckon_plan<K: Kind>(
 {
     fill_floors(v, floors);
     let m = fill_arcs(v, counts, sums, befores, arcs);
-    reckon(2 * v.run_count, m, floors, arcs, times, ring, tables, marks)
+    let listing = Listing {
+        events: 2 * v.run_count,
+        floors,
+        arc_count: m,
+        arcs,
+    };
+    reckon(listing, times, ring, tables, marks)
 }
 
 /// Reckons the constraints in force of what is entered: the least times to the front of `times`, or else a ring's events to the

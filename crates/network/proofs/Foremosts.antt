@@ -1,6 +1,6 @@
 -- A ring by the latest durations between its events.
-use Rattle.std.proofs.Common.{◌≡◌, ℕ, zero, suc, ◌+◌, ◌-◌, ◌<◌, ◌≤◌, ◌⊎◌, List, [], ◌∷◌, reverse, length, take, drop, sym, refl, ap, ◌∙◌, subst, inl, inr, arith}
-use Rattle.std.proofs.lemmas.List.{drop-take, length-take, length-drop}
+use Rattle.std.proofs.Common.{◌≡◌, ℕ, zero, suc, ◌-◌, ◌<◌, ◌≤◌, ◌⊎◌, List, [], ◌∷◌, reverse, length, take, drop, refl, ap, ◌∙◌, subst, inl, inr, arith}
+use Rattle.std.proofs.lemmas.List.{length-take, length-drop}
 use Rattle.std.specs.List.{AllByRecursion}
 use Rattle.std.proofs.lemmas.Bool.{cases_eq, cases_Bool, cases_lt}
 use Rattle.kinds.specs.Time.{Time, Laws}
@@ -117,10 +117,5 @@ module _ {K : Type 0} {t : Time K} (laws : Laws t) (n : ℕ) (arcs : List (Arc K
       }
 
 -- the part of a path from s up to e
-pub part_is : (path : List ℕ) (s e : ℕ) → s < e → drop s (take e path) ≡ take (e - s) (drop s path)
-part_is path s e h =
-    let q : s + (e - s) ≡ e = omega arith in
-    ap (λ i. drop s (take i path)) (sym q) ∙ drop-take s (e - s) path
-
 pub part_long : (path : List ℕ) (s e : ℕ) → e ≤ length path → length (take (e - s) (drop s path)) ≡ e - s
 part_long path s e h = simp (length-take, length-drop) (omega arith)

@@ -15,3 +15,4 @@ pub mod Solved
 pub mod Strays
 pub mod Refusals
 pub mod Checks
+pub mod Told

@@ -7,7 +7,7 @@ use Rattle.network.specs.declared.Arc.{Arc}
 use Rattle.kinds.specs.Time.{within}
 use Rattle.network.specs.Network.{UpTo, After}
 use Rattle.network.specs.Reckoning.{at, arc_at}
-use Rattle.network.specs.Rounds.{Round, Source, Sound, Sized}
+use Rattle.network.specs.Rounds.{Round, Source, Sound, Sized, InLimits}
 use Rattle.network.proofs.Order.{after_upto, upto_same}
 
 -- an answer that is there is the value, and one within the limit is there
@@ -21,6 +21,10 @@ pub none_not : {A : Type 0} (n : ℕ) (z : A) → n ≤ 400000000 → None ≡ w
 none_not n z h e =
     let s = e ∙ cond-true (leb n 400000000) (Some z) None (le-leb n 400000000 h) in
     let z : ◌≡◌ {A = ℕ} 0 1 = cc in omega arith
+
+-- sound over a table as long as the floors
+pub sound_at : {K : Type 0} {t : Time K} {floors : List K} {arcs : List (Arc K)} (old : List K) → InLimits t floors arcs → length old ≡ length floors → Sound t (length old) arcs
+sound_at old limits same = rw same limits.sound
 
 -- what is read at arc i, and at its start
 module _ {K : Type 0} (old : List K) {t : Time K} {arcs : List (Arc K)} (sound : Sound t (length old) arcs) {i : ℕ} (l : i < length arcs) {a : Arc K} (a_is : a ≡ get_or arcs i a) where

@@ -3,15 +3,15 @@ use Rattle.std.proofs.Common.{◌≡◌, ℕ, zero, suc, ◌+◌, ◌-◌, ◌<�
 use Rattle.kinds.specs.Time.{Time, Laws}
 use Rattle.network.specs.declared.Arc.{Arc}
 use Rattle.network.specs.Reckoning.{at, arc_at}
-use Rattle.network.specs.Rounds.{Round, Source, Sound, Sized, Latest, Settled}
+use Rattle.network.specs.Rounds.{Round, Source, InLimits, Latest, Settled}
 use Rattle.network.proofs.Order.{upto_refl}
 use Rattle.network.proofs.Walks.{latest_more}
 
-module _ {K : Type 0} {t : Time K} (laws : Laws t) (floors : List K) (arcs : List (Arc K)) (sound : Sound t (length floors) arcs) (sized : Sized t 110000000 floors) (few : length floors ≤ 1024) where
+module _ {K : Type 0} {t : Time K} (laws : Laws t) (floors : List K) (arcs : List (Arc K)) (limits : InLimits t floors arcs) where
   module _ (k : ℕ) (old new : List K) (row : List ℕ) (in_k : k < length floors) (l : Latest t floors arcs k old) (r : Round t arcs (length arcs) old new row) (quiet : (v : ℕ) → v < length floors → get_or row v 0 ≡ 65535) where
     still_by : (v : ℕ) (x : K) (f : ℕ) → f ≡ 65535 → Source t arcs (length arcs) old v x f → x ≡ at t old v
     still_by v x f e (inl p) = p.1
-    still_by v x f e (inr p) = let q = sound.few in absurd (omega (arith, p.0))
+    still_by v x f e (inr p) = let q = limits.sound.few in absurd (omega (arith, p.0))
 
     still : (v : ℕ) → v < length floors → at t new v ≡ at t old v
     still v h = let e = l.same in still_by v _ _ (quiet v h) (r.source v (omega arith))
@@ -19,7 +19,7 @@ module _ {K : Type 0} {t : Time K} (laws : Laws t) (floors : List K) (arcs : Lis
     again : Round t arcs (length arcs) old old row
     again = record {
       keeps = λ v h. upto_refl laws _;
-      meets = λ f h. rw (sym (still (arc_at t arcs f).to (sound.ends f h))) (r.meets f h);
+      meets = λ f h. rw (sym (still (arc_at t arcs f).to (limits.sound.ends f h))) (r.meets f h);
       source = λ v h. let e = l.same in inl (quiet v (omega arith), refl);
     }
 
@@ -27,7 +27,7 @@ module _ {K : Type 0} {t : Time K} (laws : Laws t) (floors : List K) (arcs : Lis
     further zero h = let e : k + 0 ≡ k = omega arith in rw e l
     further (suc i) h =
         let e : k + suc i ≡ k + i + 1 = omega arith in
-        rw e (latest_more laws floors arcs sound sized (k + i) old old row (omega arith) (further i (omega arith)) again l.same)
+        rw e (latest_more laws floors arcs limits (k + i) old old row (omega arith) (further i (omega arith)) again l.same)
 
     pub settles : Settled t floors arcs old
     settles =

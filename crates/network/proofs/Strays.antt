@@ -1,19 +1,17 @@
 -- An element that is looked for, found at a place or not at all.
-use Rattle.std.proofs.Common.{◌≡◌, ℕ, zero, suc, ◌<◌, ◌≤◌, cond, ltb, List, [], ◌∷◌, length, get_or, ◌∙◌, inl, inr, arith}
+use Rattle.std.proofs.Common.{◌≡◌, ℕ, zero, suc, ◌<◌, ◌≤◌, cond, ltb, List, [], ◌∷◌, length, get_or, sym, subst, ◌∙◌, inl, inr, arith}
 use Rattle.std.proofs.lemmas.Bool.Decides.{nat_tests}
 use Rattle.std.proofs.lemmas.Bool.{cases_lt}
+use Rattle.std.specs.List.{Any}
+use Rattle.std.proofs.lemmas.List.{get_or_default}
 use Rattle.network.specs.declared.Arc.{Arc}
-use Rattle.network.specs.Reckoning.{SomeOf, Stray, first_stray}
+use Rattle.network.specs.Reckoning.{Stray, first_stray}
 
-pub some_none : {X : Type 0} (P : X → Type 0) (d : X) (xs : List X) → ((k : ℕ) → k < length xs → P (get_or xs k d) → ⊥) → SomeOf P xs → ⊥
-some_none P d [] f s = s
-some_none P d (x ∷ xs) f (inl p) = f 0 (omega arith) p
-some_none P d (x ∷ xs) f (inr s) = some_none P d xs (λ k h. f (suc k) (omega arith)) s
+pub some_none : {X : Type 0} (P : X → Type 0) (d : X) (xs : List X) → ((k : ℕ) → k < length xs → P (get_or xs k d) → ⊥) → Any P xs → ⊥
+some_none P d xs f s = f s.0 s.2 (subst P (sym s.3 ∙ get_or_default xs s.0 s.1 d s.2) s.4)
 
-pub some_at : {X : Type 0} (P : X → Type 0) (d : X) (xs : List X) (k : ℕ) → k < length xs → P (get_or xs k d) → SomeOf P xs
-some_at P d [] k h p = absurd (omega arith)
-some_at P d (x ∷ xs) zero h p = inl p
-some_at P d (x ∷ xs) (suc k) h p = inr (some_at P d xs k (omega arith) p)
+pub some_at : {X : Type 0} (P : X → Type 0) (d : X) (xs : List X) (k : ℕ) → k < length xs → P (get_or xs k d) → Any P xs
+some_at P d xs k h p = (k, get_or xs k d, h, get_or_default xs k (get_or xs k d) d h, p)
 
 module _ {K : Type 0} (n : ℕ) (d : Arc K) where
   le_or : (x : ℕ) → (n ≤ x → ⊥) → x < n

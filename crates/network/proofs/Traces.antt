@@ -6,7 +6,7 @@ use Rattle.kinds.specs.Time.{Time, Laws}
 use Rattle.network.specs.declared.Arc.{Arc}
 use Rattle.network.specs.Network.{UpTo, After, Chain, along, Reaches, Ring, ends}
 use Rattle.network.specs.Reckoning.{at, arc_at, placed, network_of}
-use Rattle.network.specs.Rounds.{Source, Sound, Sized, Latest, Level, Levels, row_of, Rising}
+use Rattle.network.specs.Rounds.{Source, InLimits, Latest, Level, Levels, row_of, Rising}
 use Rattle.network.proofs.Order.{after_upto, is_false}
 use Rattle.network.proofs.Walks.{fits, latest_size}
 use Rattle.network.proofs.Chains.{Fit, length_ends, along_append, chain_append, chain_split, grows, along_mono, along_join}
@@ -31,9 +31,9 @@ pub record Traced {K : Type 0} (t : Time K) (floors : List K) (arcs : List (Arc 
   pub chain : Chain t (placed t arcs) u (take i path) v
   pub rises : (r : ℕ) → r + 1 ≡ level → get_or (row_of (length floors) rows r) u 0 ≡ 65535 → ⊥
 
-module _ {K : Type 0} {t : Time K} (laws : Laws t) (floors : List K) (arcs : List (Arc K)) (sound : Sound t (length floors) arcs) (sized : Sized t 110000000 floors) (few : length floors ≤ 1024) where
+module _ {K : Type 0} {t : Time K} (laws : Laws t) (floors : List K) (arcs : List (Arc K)) (limits : InLimits t floors arcs) where
   fit : Fit t (length floors) (placed t arcs)
-  fit = fits laws floors arcs sound sized
+  fit = fits laws floors arcs limits
 
   -- two tables of the latest values are the same
   unique : (k : ℕ) (a b : List K) → Latest t floors arcs k a → Latest t floors arcs k b → (v : ℕ) → v < length floors → at t a v ≡ at t b v
@@ -52,7 +52,7 @@ module _ {K : Type 0} {t : Time K} (laws : Laws t) (floors : List K) (arcs : Lis
 
   same_by : (old : List K) (v : ℕ) (x : K) (f : ℕ) → f ≡ 65535 → Source t arcs (length arcs) old v x f → x ≡ at t old v
   same_by old v x f e (inl p) = p.1
-  same_by old v x f e (inr p) = let q = sound.few in absurd (omega (arith, p.0))
+  same_by old v x f e (inr p) = let q = limits.sound.few in absurd (omega (arith, p.0))
 
   module _ (rows : List ℕ) where
     pub traced_none : (v : ℕ) (path : List ℕ) → Rising t floors arcs rows v → Traced t floors arcs rows path v 0 v
@@ -103,7 +103,7 @@ module _ {K : Type 0} {t : Time K} (laws : Laws t) (floors : List K) (arcs : Lis
       rose r e quiet =
           let w = tr.is_level in
           let under = levels r (omega arith) in
-          let in_start = sound.starts f up.0 in
+          let in_start = limits.sound.starts f up.0 in
           let still : at t under.new (arc_at t arcs f).from ≡ at t under.old (arc_at t arcs f).from = same_by under.old (arc_at t arcs f).from _ _ quiet (under.round.source (arc_at t arcs f).from (let q = under.is_old.same in omega arith)) in
           let joint : at t lev.old (arc_at t arcs f).from ≡ at t under.new (arc_at t arcs f).from = unique k lev.old under.new lev.is_old (rw e at under.is_new) (arc_at t arcs f).from in_start in
           let joint_u : at t lev.old u ≡ at t under.new u = unique k lev.old under.new lev.is_old (rw e at under.is_new) u tr.inside in
@@ -118,7 +118,7 @@ module _ {K : Type 0} {t : Time K} (laws : Laws t) (floors : List K) (arcs : Lis
         tab = lev.old;
         level = k;
         is_level = let e = tr.is_level in omega arith;
-        inside = sound.starts f up.0;
+        inside = limits.sound.starts f up.0;
         beyond = tr.beyond;
         is_tab = lev.is_old;
         value = rw longer (tr.value ∙ ap (λ y. along t (placed t arcs) y (take i path)) (here ∙ up.2) ∙ sym (along_append t (placed t arcs) (at t lev.old (arc_at t arcs f).from) (take i path) (f ∷ [])));
@@ -172,7 +172,7 @@ module _ {K : Type 0} {t : Time K} (laws : Laws t) (floors : List K) (arcs : Lis
         let lv = tr.is_level in
         let y = at t tr.tab u in
         let total = along t (placed t arcs) t.none (drop s (take i path)) in
-        let size_y : t.size y ≤ 110000000 + tr.level * 100000 = latest_size laws floors arcs sound sized tr.level tr.tab tr.is_tab (omega arith) u tr.inside in
+        let size_y : t.size y ≤ 110000000 + tr.level * 100000 = latest_size laws floors arcs limits tr.level tr.tab tr.is_tab (omega arith) u tr.inside in
         let long = ring_long in
         let long_rest = rest_long in
         let z = laws.none_size in

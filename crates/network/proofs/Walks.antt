@@ -4,18 +4,18 @@ use Rattle.kinds.specs.Time.{Time, Laws}
 use Rattle.network.specs.declared.Arc.{Arc}
 use Rattle.network.specs.Network.{UpTo, Chain, along, Reaches}
 use Rattle.network.specs.Reckoning.{at, arc_at, placed, network_of}
-use Rattle.network.specs.Rounds.{Round, Source, Sound, Sized, Latest}
+use Rattle.network.specs.Rounds.{Round, Source, Sized, InLimits, Latest}
 use Rattle.network.proofs.Chains.{Fit, grows}
 use Rattle.network.proofs.Order.{upto_same}
 
-module _ {K : Type 0} {t : Time K} (laws : Laws t) (floors : List K) (arcs : List (Arc K)) (sound : Sound t (length floors) arcs) (sized : Sized t 110000000 floors) where
+module _ {K : Type 0} {t : Time K} (laws : Laws t) (floors : List K) (arcs : List (Arc K)) (limits : InLimits t floors arcs) where
   pub fits : Fit t (length floors) (placed t arcs)
-  fits = record { starts = sound.starts; ends = sound.ends; short = sound.short }
+  fits = record { starts = limits.sound.starts; ends = limits.sound.ends; short = limits.sound.short }
 
   pub reaches_size : (j v : ℕ) (x : K) → Reaches t (network_of t floors arcs) j v x → j ≤ 1024 → t.size x ≤ 110000000 + j * 100000
   reaches_size j v x r h =
       let e = r.count in
-      let p = grows laws (length floors) (placed t arcs) fits (at t floors r.first) 110000000 r.first r.walk v r.chain (sized r.first r.inside) (omega arith) in
+      let p = grows laws (length floors) (placed t arcs) fits (at t floors r.first) 110000000 r.first r.walk v r.chain (limits.sized r.first r.inside) (omega arith) in
       let q : t.size x ≤ 110000000 + length r.walk * 100000 = rw r.value p in
       omega arith
 
@@ -60,7 +60,7 @@ module _ {K : Type 0} {t : Time K} (laws : Laws t) (floors : List K) (arcs : Lis
         let w = l.walks.reached v h in
         (w.0, omega (arith, w.1), rw p.1 w.2)
     came v x f h (inr p) =
-        let w = l.walks.reached (arc_at t arcs f).from (sound.starts f p.0) in
+        let w = l.walks.reached (arc_at t arcs f).from (limits.sound.starts f p.0) in
         (suc w.0, omega (arith, w.1), rw (p.2, ← p.1) (walk_on w.0 f _ p.0 w.2))
 
     walked : (u v : ℕ) (ks : List ℕ) → length ks ≤ k + 1 → u < length floors → v < length floors → Chain t (placed t arcs) u ks v → UpTo t (along t (placed t arcs) (at t floors u) ks) (at t new v)
@@ -72,15 +72,15 @@ module _ {K : Type 0} {t : Time K} (laws : Laws t) (floors : List K) (arcs : Lis
         let w : Reaches t (network_of t floors arcs) (length ks) (arc_at t arcs f).from y = record { first = u; walk = ks; inside = in_u; chain = c.2; count = refl; value = refl } in
         let up = l.walks.latest (arc_at t arcs f).from (length ks) y (omega arith) w in
         let size_y = reaches_size (length ks) (arc_at t arcs f).from y w (omega arith) in
-        let size_o = latest_size k old l (omega arith) (arc_at t arcs f).from (sound.starts f c.0) in
-        let size_d = sound.short f c.0 in
+        let size_o = latest_size k old l (omega arith) (arc_at t arcs f).from (limits.sound.starts f c.0) in
+        let size_d = limits.sound.short f c.0 in
         let more = laws.mono_left y (at t old (arc_at t arcs f).from) (arc_at t arcs f).duration (omega arith) (omega arith) up in
         rw (sym c.1) (laws.trans _ _ _ more (r.meets f c.0))
 
     -- a walk ends at an event
     pub ends_in : (u v : ℕ) (ks : List ℕ) → u < length floors → Chain t (placed t arcs) u ks v → v < length floors
     ends_in u v [] h c = rw (sym c) h
-    ends_in u v (f ∷ ks) h c = rw (sym c.1) (sound.ends f c.0)
+    ends_in u v (f ∷ ks) h c = rw (sym c.1) (limits.sound.ends f c.0)
 
     pub latest_more : length new ≡ length floors → Latest t floors arcs (k + 1) new
     latest_more same = record {

@@ -1,5 +1,5 @@
--- The number, the layer and the place that a fault of the network tells. Assumes nothing.
-use Rattle.std.specs.Prelude.{ℕ}
+-- The number, the layer and the place that a fault of the network tells, and how a layer is printed. Assumes nothing.
+use Rattle.std.specs.Prelude.{ℕ, List, codes}
 use Rattle.network.specs.declared.faults.NetworkFault.{NetworkFault}
 use Rattle.network.specs.declared.faults.NetworkFault.TheVariants as fault
 use Rattle.network.specs.declared.faults.Layer.{Layer}
@@ -24,3 +24,9 @@ network_place fault.Floor = 0
 network_place fault.Duration = 0
 network_place fault.Count = 0
 network_place (fault.Ring count) = 0
+
+-- what is printed of a layer
+abbrev pub layer_name : Layer → List ℕ
+layer_name layer.Network = codes "network"
+layer_name layer.Plan = codes "plan"
+layer_name layer.Book = codes "book"

@@ -1,15 +1,24 @@
 -- Inner words of the reckoning: one round of raising times, and the memory of rows by which a rise is traced back. No public
 -- promise speaks of them. Assumes nothing.
-use Rattle.std.specs.Prelude.{◌≡◌, ℕ, ◌+◌, ◌-◌, ◌*◌, ◌<◌, ◌≤◌, ◌⊎◌, List, ◌++◌, reverse, length, take, drop, Some, None, Option, slice_index, slice_index_or}
+use Rattle.std.specs.Prelude.{◌≡◌, ℕ, ◌+◌, ◌-◌, ◌*◌, ◌<◌, ◌≤◌, ◌⊎◌, List, ◌++◌, reverse, length, take, drop, Ok, Err, Result, slice_index, slice_index_or}
 use Rattle.std.specs.List.{AllByRecursion}
 use Rattle.kinds.specs.Time.{Time}
 use Rattle.network.specs.declared.Arc.{Arc}
+use Rattle.network.specs.declared.faults.NetworkFault.{NetworkFault}
+use Rattle.network.specs.declared.faults.NetworkFault.TheVariants as fault
 use Rattle.network.specs.Network.{UpTo, After, LatestWalks, ends, Least, HasRing, Names, NoTable}
 use Rattle.network.specs.Reckoning.{at, arc_at, placed, network_of}
 
 -- row j of a memory of rows of n places
 abbrev pub row_of : ℕ → List ℕ → ℕ → List ℕ
 row_of n rows j = take n (drop (j * n) rows)
+
+-- how long the tables and rows of working memory are
+pub record SpaceLengths (now_long next_long rows_long path_long seen_long : ℕ) : Type 0 where
+  pub next : next_long ≡ now_long
+  pub rows : rows_long ≡ now_long * now_long
+  pub path : path_long ≡ now_long
+  pub seen : seen_long ≡ now_long
 
 module _ {K : Type 0} (t : Time K) where
   -- arcs that join events, few enough that a number tells each, and none over its size
@@ -21,6 +30,12 @@ module _ {K : Type 0} (t : Time K) where
 
   abbrev pub Sized : ℕ → List K → Type 0
   Sized b xs = (v : ℕ) → v < length xs → t.size (at t xs v) ≤ b
+
+  -- a network within its limits
+  pub record InLimits (floors : List K) (arcs : List (Arc K)) : Type 0 where
+    pub few : length floors ≤ 1024
+    pub sound : Sound (length floors) arcs
+    pub sized : Sized 110000000 floors
 
   module _ (arcs : List (Arc K)) where
     -- x is v's value after a round that has come to arc m: the old one, or raised by the arc at place f
@@ -72,7 +87,16 @@ module _ {K : Type 0} (t : Time K) where
     pub named : events ≡ back ++ front
     pub smallest : AllByRecursion (λ v. slice_index events 0 ≤ v) events
 
-  -- what solving answers: no number and the least times, or how many events of a ring stand at the front of ring memory
-  abbrev pub Solved : List K → List (Arc K) → List K → List ℕ → List ℕ → Option ℕ → Type 0
-  Solved floors arcs times was ring None = Least t (network_of t floors arcs) (at t times) × (HasRing t (placed t arcs) → ⊥) × (ring ≡ was)
-  Solved floors arcs times was ring (Some m) = Names t (placed t arcs) (take m ring) × NoTable t (network_of t floors arcs) × (drop m ring ≡ drop m was) × (m ≤ length floors)
+  -- the refusal of a ring, whose events stand at the front of ring memory
+  pub record Refused (floors : List K) (arcs : List (Arc K)) (was ring : List ℕ) (f : NetworkFault) : Type 0 where
+    pub count : ℕ
+    pub is : f ≡ fault.Ring count
+    pub names : Names t (placed t arcs) (take count ring)
+    pub none : NoTable t (network_of t floors arcs)
+    pub rest : drop count ring ≡ drop count was
+    pub few : count ≤ length floors
+
+  -- what solving leaves: the least times and no ring, or a ring
+  abbrev pub Solved : List K → List (Arc K) → List K → List K → List ℕ → List ℕ → Result (Unit {0}) NetworkFault → Type 0
+  Solved floors arcs was times ring_was ring (Ok x) = Least t (network_of t floors arcs) (at t times) × (HasRing t (placed t arcs) → ⊥) × (ring ≡ ring_was)
+  Solved floors arcs was times ring_was ring (Err f) = Refused floors arcs ring_was ring f × (times ≡ was)

@@ -1,17 +1,31 @@
 //! What a refused reckoning tells.
-ghost use Rattle.std.specs.Prelude.{◌≡◌};
-ghost use Rattle.network.specs.Faults.{network_number, network_layer, network_place};
+ghost use Rattle.std.specs.Prelude.{◌≡◌, Some};
+ghost use Rattle.network.specs.Faults.{layer_name, network_number, network_layer, network_place};
+
+use std::fmt;
 
 /// The layer of the library that a fault speaks for.
-#[derive(Clone, Copy)]
+#[derive(Clone, Copy, Debug, PartialEq, Eq)]
 pub enum Layer {
     Network,
     Plan,
     Book,
 }
 
+impl fmt::Display for Layer {
+    ghost output = { λ x. Some (layer_name x) };
+
+    fn fmt<W: fmt::Write>(&self, f: &mut fmt::Formatter<W>) -> fmt::Result {
+        f.write_str(match self {
+            Self::Network => "network",
+            Self::Plan => "plan",
+            Self::Book => "book",
+        })
+    }
+}
+
 /// Why a network was not reckoned.
-#[derive(Clone, Copy)]
+#[derive(Clone, Copy, Debug, PartialEq, Eq)]
 pub enum NetworkFault {
     /// A memory has another length than listed.
     Length,
@@ -34,11 +48,11 @@ impl NetworkFault {
     {
         match self {
             NetworkFault::Length => 1,
-            NetworkFault::Event { place: _ } => 3,
+            NetworkFault::Event { .. } => 3,
             NetworkFault::Floor => 4,
             NetworkFault::Duration => 5,
             NetworkFault::Count => 6,
-            NetworkFault::Ring { count: _ } => 12,
+            NetworkFault::Ring { .. } => 12,
         }
     }
 

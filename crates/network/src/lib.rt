@@ -1,14 +1,16 @@
 //! Networks of events and arcs over any kind of time: the least times, or the ring that forbids them.
 #![tactic(auto)]
 
-ghost use Rattle.std.specs.Prelude.{◌≡◌, ℕ, ◌+◌, ◌-◌, ◌*◌, ◌<◌, ◌≤◌, reverse, length, take, drop, Some, None, Decides, MatchOption, ◌≢◌, slice_index};
+ghost use Rattle.std.specs.Prelude.{◌≡◌, ℕ, ◌+◌, ◌-◌, ◌*◌, ◌<◌, ◌≤◌, reverse, length, take, drop, Some, None, Decides, MatchOption, ◌≢◌, slice_index, slice_range, min, IfOk};
+ghost use Rattle.std.specs.List.{Any};
 ghost use Rattle.network.specs.Network.{Least, Ring, Names, HasRing, ends};
 ghost use Rattle.network.specs.Refusals.{Passed, Answers};
 ghost use Rattle.network.specs.Faults.{network_number, network_place};
-ghost use Rattle.network.specs.Reckoning.{at, placed, network_of, SomeOf, Stray, first_stray, lengths, length_rows, network_rows, handed, first_rows, reckon_rows, TimesHold, RingHolds, RingExactly};
-ghost use Rattle.network.specs.Rounds.{Sound, Sized, Round, Settled, Rising, Turned, Solved};
+ghost use Rattle.network.specs.Reckoning.{at, placed, network_of, Stray, first_stray, lengths, length_rows, network_rows, listed, kept_floors, kept_arcs, handed, first_rows, reckon_rows, TimesHold, RingHolds, RingExactly};
+ghost use Rattle.network.specs.Rounds.{InLimits, Sized, Round, Settled, Rising, Turned, SpaceLengths, Solved};
 
 use kinds::Kind;
+use std::ops::Range;
 
 mod faults;
 
@@ -20,6 +22,15 @@ pub struct Arc<K> {
     pub from: u16,
     pub to: u16,
     pub duration: K,
+}
+
+/// A network as it is listed in memory: its floors are the first `events` of `floors`, and its arcs the first `arc_count` of `arcs`.
+#[derive(Clone, Copy)]
+pub struct Listing<'n, K> {
+    pub events: usize,
+    pub floors: &'n [K],
+    pub arc_count: usize,
+    pub arcs: &'n [Arc<K>],
 }
 
 /// The most events, and the length of floors, times and ring memory.
@@ -39,16 +50,54 @@ pub const DURATION_SIZE: u32 = 100_000;
 // Stands for no arc, and for an event that is not marked.
 const NO_ARC: u16 = 65_535;
 
+// The floors and the arcs of a network that keeps its limits.
+#[derive(Drop)]
+struct Kept<'n, K: Kind> {
+    floors: &'n [K],
+    arcs: &'n [Arc<K>],
+    ghost limits: { InLimits K.Kind.time floors.now arcs.now },
+}
+
+// The working memory of a network: two tables of times, a row of marks for each round, and two rows of marks to trace a ring by.
+#[derive(Drop)]
+struct Workspace<'w, K> {
+    now: &'w mut [K],
+    next: &'w mut [K],
+    rows: &'w mut [u16],
+    path: &'w mut [u16],
+    seen: &'w mut [u16],
+    ghost lengths: { SpaceLengths (length now.now) (length next.now) (length rows.now) (length path.now) (length seen.now) },
+}
+
+impl<'w, K: Kind> Workspace<'w, K> {
+    // What a network of `events` events takes of working memory.
+    fn of(events: usize, tables: &'w mut [K], marks: &'w mut [u16]) -> Workspace<'w, K>
+        requires few { events ≤ 1024 }
+        requires lengths { (length tables.old ≡ 2048) × (length marks.old ≡ 1050624) }
+        ensures { length result.now.now ≡ events }
+    {
+        let (now, next) = tables.split_at_mut(EVENTS);
+        let (rows, more) = marks.split_at_mut(EVENTS * EVENTS);
+        let (path, seen) = more.split_at_mut(EVENTS);
+        Workspace {
+            now: &mut now[..events],
+            next: &mut next[..events],
+            rows: &mut rows[..events * events],
+            path: &mut path[..events],
+            seen: &mut seen[..events],
+        }
+    }
+}
+
 // One round: each event's new time is the latest of its old one and of what its arcs bring.
-fn round<K: Kind>(old: &[K], arcs: &[Arc<K>], new: &mut [K], from: &mut [u16])
-    requires lengths { (length new.old ≡ length old.now) × (length from.old ≡ length old.now) }
-    requires sound { Sound K.Kind.time (length old.now) arcs.now }
+fn round<K: Kind>(kept: &Kept<'_, K>, old: &[K], new: &mut [K], from: &mut [u16])
+    requires lengths { (length old.now ≡ length kept.now.floors.now) × ((length new.old ≡ length old.now) × (length from.old ≡ length old.now)) }
     requires sized { Sized K.Kind.time 300000000 old.now }
-    ensures { Round K.Kind.time arcs.now (length arcs.now) old.now new.new from.new }
+    ensures { Round K.Kind.time kept.now.arcs.now (length kept.now.arcs.now) old.now new.new from.new }
 {
     new.copy_from_slice(old);
     from.fill(NO_ARC);
-    for (i, arc) in arcs.iter().enumerate() {
+    for (i, arc) in kept.arcs.iter().enumerate() {
         let end = arc.to as usize;
         match old[arc.from as usize].then(arc.duration) {
             Some(x) => {
@@ -66,34 +115,25 @@ fn round<K: Kind>(old: &[K], arcs: &[Arc<K>], new: &mut [K], from: &mut [u16])
 fn first_raised(row: &[u16]) -> Option<usize>
     ensures { elim result [ None ↦ ((v : ℕ) → v < length row.now → slice_index row.now v ≡ 65535) | Some v ↦ (v < length row.now) × (slice_index row.now v ≢ 65535) ] }
 {
-    for (v, arc) in row.iter().enumerate() {
-        if *arc != NO_ARC {
-            return Some(v);
-        }
-    }
-    None
+    row.iter().position(|arc| *arc != NO_ARC)
 }
 
 // Raises the floors round by round until nothing changes; answers an event that still rises in the last round.
 fn settle<K: Kind>(
-    floors: &[K],
-    arcs: &[Arc<K>],
+    kept: &Kept<'_, K>,
     times: &mut [K],
     next: &mut [K],
     rows: &mut [u16],
 ) -> Option<usize>
-    requires few { length floors.now ≤ 1024 }
-    requires lengths { (length times.old ≡ length floors.now) × ((length next.old ≡ length floors.now) × (length rows.old ≡ length floors.now * length floors.now)) }
-    requires sound { Sound K.Kind.time (length floors.now) arcs.now }
-    requires sized { Sized K.Kind.time 110000000 floors.now }
-    ensures { elim result [ None ↦ Settled K.Kind.time floors.now arcs.now times.new | Some v ↦ Rising K.Kind.time floors.now arcs.now rows.new v ] }
+    requires lengths { (length times.old ≡ length kept.now.floors.now) × ((length next.old ≡ length kept.now.floors.now) × (length rows.old ≡ length kept.now.floors.now * length kept.now.floors.now)) }
+    ensures { elim result [ None ↦ Settled K.Kind.time kept.now.floors.now kept.now.arcs.now times.new | Some v ↦ Rising K.Kind.time kept.now.floors.now kept.now.arcs.now rows.new v ] }
 {
-    let n = floors.len();
-    times.copy_from_slice(floors);
+    let n = kept.floors.len();
+    times.copy_from_slice(kept.floors);
     for k in 0..n {
         let start = k * n;
         let row = &mut rows[start..start + n];
-        round(times, arcs, next, row);
+        round(kept, times, next, row);
         match first_raised(row) {
             None => return None,
             Some(v) => {
@@ -107,24 +147,20 @@ fn settle<K: Kind>(
     None
 }
 
-// Traces the rise of `v` in the last round back until an event comes twice. The ring's arcs stand in `path`, the last first,
-// from the first place of the result up to the second.
+// Traces the rise of `v` in the last round back until an event comes twice. The ring's arcs stand in the result's range of `path`,
+// the last first.
 fn trace<K: Kind>(
-    floors: &[K],
-    arcs: &[Arc<K>],
+    kept: &Kept<'_, K>,
     rows: &[u16],
     v: usize,
     path: &mut [u16],
     seen: &mut [u16],
-) -> (usize, usize)
-    requires few { length floors.now ≤ 1024 }
-    requires lengths { (length rows.now ≡ length floors.now * length floors.now) × ((length path.old ≡ length floors.now) × (length seen.old ≡ length floors.now)) }
-    requires sound { Sound K.Kind.time (length floors.now) arcs.now }
-    requires sized { Sized K.Kind.time 110000000 floors.now }
-    requires rising { Rising K.Kind.time floors.now arcs.now rows.now v }
-    ensures { (result.0 < result.1) × (result.1 ≤ length floors.now) × Ring K.Kind.time (placed K.Kind.time arcs.now) (drop result.0 (take result.1 path.new)) }
+) -> Range<usize>
+    requires lengths { (length rows.now ≡ length kept.now.floors.now * length kept.now.floors.now) × ((length path.old ≡ length kept.now.floors.now) × (length seen.old ≡ length kept.now.floors.now)) }
+    requires rising { Rising K.Kind.time kept.now.floors.now kept.now.arcs.now rows.now v }
+    ensures { (result.start < result.end) × (result.end ≤ length kept.now.floors.now) × Ring K.Kind.time (placed K.Kind.time kept.now.arcs.now) (slice_range path.new result.start result.end) }
 {
-    let n = floors.len();
+    let n = kept.floors.len();
     seen.fill(NO_ARC);
     let mut event = v;
     let mut count = 0;
@@ -133,9 +169,9 @@ fn trace<K: Kind>(
         let arc = rows[(n - 1 - count) * n + event];
         path[count] = arc;
         count += 1;
-        event = arcs[arc as usize].from as usize;
+        event = kept.arcs[arc as usize].from as usize;
     }
-    (seen[event] as usize, count)
+    seen[event] as usize..count
 }
 
 // The place of the smallest number.
@@ -143,13 +179,10 @@ fn smallest(xs: &[u16]) -> usize
     requires { 0 < length xs.now }
     ensures { (result < length xs.now) × ((k : ℕ) → k < length xs.now → slice_index xs.now result ≤ slice_index xs.now k) }
 {
-    let mut first = 0;
-    for k in 1..xs.len() {
-        if xs[k] < xs[first] {
-            first = k;
-        }
+    match xs.iter().enumerate().min_by_key(|(_, x)| **x) {
+        Some((place, _)) => place,
+        None => unreachable(),
     }
-    first
 }
 
 // Writes the ends of the arcs at the places of `path`, which stand last first, in arc order.
@@ -158,6 +191,7 @@ fn list_ends<K: Kind>(arcs: &[Arc<K>], path: &[u16], ring: &mut [u16])
     requires known { (p : ℕ) → p < length path.now → slice_index path.now p < length arcs.now }
     ensures { ring.new ≡ reverse (ends K.Kind.time (placed K.Kind.time arcs.now) path.now) }
 {
+    // Stays: `ring.iter_mut().zip(path)` was tried, and the proof didn't close: it learns nothing of what an adapter of `iter_mut` writes.
     for (j, place) in path.iter().enumerate() {
         ring[j] = arcs[*place as usize].to;
     }
@@ -180,35 +214,39 @@ fn name_ring<K: Kind>(arcs: &[Arc<K>], path: &[u16], ring: &mut [u16])
 
 // The least times of a network, or a ring.
 fn solve<K: Kind>(
-    floors: &[K],
-    arcs: &[Arc<K>],
+    kept: &Kept<'_, K>,
+    space: Workspace<'_, K>,
     times: &mut [K],
-    next: &mut [K],
-    rows: &mut [u16],
-    path: &mut [u16],
-    seen: &mut [u16],
     ring: &mut [u16],
-) -> Option<usize>
-    requires few { length floors.now ≤ 1024 }
-    requires lengths { (length times.old ≡ length floors.now) × ((length next.old ≡ length floors.now) × ((length rows.old ≡ length floors.now * length floors.now) × ((length path.old ≡ length floors.now) × (length seen.old ≡ length floors.now)))) }
-    requires room { length floors.now ≤ length ring.old }
-    requires sound { Sound K.Kind.time (length floors.now) arcs.now }
-    requires sized { Sized K.Kind.time 110000000 floors.now }
-    ensures { Solved K.Kind.time floors.now arcs.now times.new ring.old ring.new result }
+) -> Result<(), NetworkFault>
+    requires lengths { (length space.now.now ≡ length kept.now.floors.now) × (length times.old ≡ length kept.now.floors.now) }
+    requires room { length kept.now.floors.now ≤ length ring.old }
+    ensures { Solved K.Kind.time kept.now.floors.now kept.now.arcs.now times.old times.new ring.old ring.new result }
 {
-    match settle(floors, arcs, times, next, rows) {
-        None => None,
+    let Workspace {
+        now,
+        next,
+        rows,
+        path,
+        seen,
+    } = space;
+    match settle(kept, now, next, rows) {
+        None => {
+            times.copy_from_slice(now);
+            Ok(())
+        }
         Some(v) => {
-            let (start, end) = trace(floors, arcs, rows, v, path, seen);
-            name_ring(arcs, &path[start..end], ring);
-            Some(end - start)
+            let circuit = trace(kept, rows, v, path, seen);
+            let path = &path[circuit];
+            name_ring(kept.arcs, path, ring);
+            Err(NetworkFault::Ring { count: path.len() })
         }
     }
 }
 
 // The first number in the arcs that names no event.
 fn stray<K: Kind>(events: usize, arcs: &[Arc<K>]) -> Option<u16>
-    ensures { MatchOption result (SomeOf (Stray events) arcs.now → ⊥) (λ p. SomeOf (Stray events) arcs.now × (p ≡ first_stray events arcs.now)) }
+    ensures { MatchOption result (Any (Stray events) arcs.now → ⊥) (λ p. Any (Stray events) arcs.now × (p ≡ first_stray events arcs.now)) }
 {
     for arc in arcs {
         if arc.from as usize >= events {
@@ -223,26 +261,16 @@ fn stray<K: Kind>(events: usize, arcs: &[Arc<K>]) -> Option<u16>
 
 // Whether a floor is over its size.
 fn floor_over<K: Kind>(floors: &[K]) -> bool
-    ensures { Decides result (SomeOf (λ x. 110000000 < K.Kind.time.size x) floors.now) }
+    ensures { Decides result (Any (λ x. 110000000 < K.Kind.time.size x) floors.now) }
 {
-    for floor in floors {
-        if floor.size() > FLOOR_SIZE {
-            return true;
-        }
-    }
-    false
+    floors.iter().any(|floor| floor.size() > FLOOR_SIZE)
 }
 
 // Whether a duration is over its size.
 fn duration_over<K: Kind>(arcs: &[Arc<K>]) -> bool
-    ensures { Decides result (SomeOf (λ a. 100000 < K.Kind.time.size a.duration) arcs.now) }
+    ensures { Decides result (Any (λ a. 100000 < K.Kind.time.size a.duration) arcs.now) }
 {
-    for arc in arcs {
-        if arc.duration.size() > DURATION_SIZE {
-            return true;
-        }
-    }
-    false
+    arcs.iter().any(|arc| arc.duration.size() > DURATION_SIZE)
 }
 
 // Whether each memory has its listed length.
@@ -256,35 +284,28 @@ fn check_lengths(
 ) -> Result<(), NetworkFault>
     ensures { Answers network_number network_place (length_rows (lengths floors arcs times ring tables marks)) result }
 {
-    if floors != EVENTS {
-        return Err(NetworkFault::Length);
-    }
-    if arcs != ARCS {
-        return Err(NetworkFault::Length);
-    }
-    if times != EVENTS {
-        return Err(NetworkFault::Length);
-    }
-    if ring != EVENTS {
-        return Err(NetworkFault::Length);
-    }
-    if tables != TABLES {
-        return Err(NetworkFault::Length);
-    }
-    if marks != MARKS {
+    if floors != EVENTS
+        || arcs != ARCS
+        || times != EVENTS
+        || ring != EVENTS
+        || tables != TABLES
+        || marks != MARKS
+    {
         return Err(NetworkFault::Length);
     }
     Ok(())
 }
 
-// Whether the network keeps its limits.
-fn check_network<K: Kind>(
+// The network, if it keeps its limits. Of the floors and the arcs as many are given as are counted, up to the limits.
+fn check_network<'n, K: Kind>(
     events: usize,
+    floors: &'n [K],
     arc_count: usize,
-    floors: &[K],
-    arcs: &[Arc<K>],
-) -> Result<(), NetworkFault>
-    ensures { Answers network_number network_place (network_rows K.Kind.time events arc_count floors.now arcs.now) result }
+    arcs: &'n [Arc<K>],
+) -> Result<Kept<'n, K>, NetworkFault>
+    requires counted { (length floors.now ≡ min events 1024) × (length arcs.now ≡ min arc_count 9728) }
+    ensures answer { Answers network_number network_place (network_rows K.Kind.time events arc_count floors.now arcs.now) result }
+    ensures kept { IfOk result (λ k. (k.floors.now ≡ floors.now) × (k.arcs.now ≡ arcs.now)) }
 {
     if let Some(place) = stray(events, arcs) {
         return Err(NetworkFault::Event { place });
@@ -301,79 +322,50 @@ fn check_network<K: Kind>(
     if arc_count > ARCS {
         return Err(NetworkFault::Count);
     }
-    Ok(())
+    Ok(Kept { floors, arcs })
 }
 
-// Whether reckon is handed what it can reckon.
-fn check<K: Kind>(
-    events: usize,
-    arc_count: usize,
-    floors: &[K],
-    arcs: &[Arc<K>],
+// The network that is listed, if reckon is handed what it can reckon.
+fn check<'n, K: Kind>(
+    listing: Listing<'n, K>,
     times: usize,
     ring: usize,
     tables: usize,
     marks: usize,
-) -> Result<(), NetworkFault>
-    ensures { Answers network_number network_place (first_rows K.Kind.time (handed events arc_count floors.now arcs.now times ring tables marks)) result }
+) -> Result<Kept<'n, K>, NetworkFault>
+    ensures answer { Answers network_number network_place (first_rows K.Kind.time (handed (listed listing.entry) times ring tables marks)) result }
+    ensures kept { IfOk result (λ k. (k.floors.now ≡ kept_floors (listed listing.entry)) × (k.arcs.now ≡ kept_arcs (listed listing.entry))) }
 {
+    let Listing {
+        events,
+        floors,
+        arc_count,
+        arcs,
+    } = listing;
     check_lengths(floors.len(), arcs.len(), times, ring, tables, marks)?;
     let (kept_floors, _) = floors.split_at(events.min(EVENTS));
     let (kept_arcs, _) = arcs.split_at(arc_count.min(ARCS));
-    check_network(events, arc_count, kept_floors, kept_arcs)
+    check_network(events, kept_floors, arc_count, kept_arcs)
 }
 
 /// The least times of a network, or the ring that forbids them.
 ///
-/// The network is the first `events` floors and the first `arc_count` arcs. Taken, the front of `times` holds the least times and
-/// everything else but working memory (`tables`, `marks`) is as it was. Refused, working memory alone has changed; for a ring its
-/// events also fill the front of `ring`, in arc order from the smallest.
+/// Taken, the front of `times` holds the least times and everything else but working memory (`tables`, `marks`) is as it was.
+/// Refused, working memory alone has changed; for a ring its events also fill the front of `ring`, in arc order from the smallest.
 pub fn reckon<K: Kind>(
-    events: usize,
-    arc_count: usize,
-    floors: &[K],
-    arcs: &[Arc<K>],
+    listing: Listing<'_, K>,
     times: &mut [K],
     ring: &mut [u16],
     tables: &mut [K],
     marks: &mut [u16],
 ) -> Result<(), NetworkFault>
-    ensures answer { Answers network_number network_place (reckon_rows K.Kind.time (handed events arc_count floors.now arcs.now (length times.old) (length ring.old) (length tables.old) (length marks.old))) result }
-    ensures times { TimesHold K.Kind.time events arc_count floors.now arcs.now times.old times.new result }
-    ensures ring { RingHolds K.Kind.time events arc_count arcs.now ring.old ring.new result }
-    ensures exactly { RingExactly K.Kind.time (handed events arc_count floors.now arcs.now (length times.old) (length ring.old) (length tables.old) (length marks.old)) }
+    ensures answer { Answers network_number network_place (reckon_rows K.Kind.time (handed (listed listing.entry) (length times.old) (length ring.old) (length tables.old) (length marks.old))) result }
+    ensures times { TimesHold K.Kind.time (listed listing.entry) times.old times.new result }
+    ensures ring { RingHolds K.Kind.time (listed listing.entry) ring.old ring.new result }
+    ensures exactly { RingExactly K.Kind.time (handed (listed listing.entry) (length times.old) (length ring.old) (length tables.old) (length marks.old)) }
 {
-    check(
-        events,
-        arc_count,
-        floors,
-        arcs,
-        times.len(),
-        ring.len(),
-        tables.len(),
-        marks.len(),
-    )?;
-    let (kept_floors, _) = floors.split_at(events);
-    let (kept_arcs, _) = arcs.split_at(arc_count);
-    let (now, next) = tables.split_at_mut(EVENTS);
-    let (rows, more) = marks.split_at_mut(EVENTS * EVENTS);
-    let (path, seen) = more.split_at_mut(EVENTS);
-    let table = &mut now[0..events];
-    match solve(
-        kept_floors,
-        kept_arcs,
-        table,
-        &mut next[0..events],
-        &mut rows[0..events * events],
-        &mut path[0..events],
-        &mut seen[0..events],
-        ring,
-    ) {
-        None => {
-            let front = &mut times[0..events];
-            front.copy_from_slice(table);
-            Ok(())
-        }
-        Some(count) => Err(NetworkFault::Ring { count }),
-    }
+    let kept = check(listing, times.len(), ring.len(), tables.len(), marks.len())?;
+    let n = kept.floors.len();
+    let space = Workspace::of(n, tables, marks);
+    solve(&kept, space, &mut times[..n], ring)
 }

@@ -3,7 +3,7 @@
 
 use anyhow::anyhow;
 use kinds::{Changes, Kind, Seconds};
-use network::{ARCS, Arc, EVENTS, MARKS, NetworkFault, TABLES, reckon};
+use network::{ARCS, Arc, EVENTS, Listing, MARKS, NetworkFault, TABLES, reckon};
 use std::alloc::Global;
 use std::fmt::Display;
 use std::io::{BufRead, BufReader};
@@ -60,11 +60,14 @@ where
         let mut ring = vec![in heap; 0u16; EVENTS]?;
         let mut tables = vec![in heap; none; TABLES]?;
         let mut marks = vec![in heap; 0u16; MARKS]?;
-        match reckon(
+        let listing = Listing {
             events,
+            floors: self.floors.as_slice(),
             arc_count,
-            self.floors.as_slice(),
-            self.arcs.as_slice(),
+            arcs: self.arcs.as_slice(),
+        };
+        match reckon(
+            listing,
             times.as_mut_slice(),
             ring.as_mut_slice(),
             tables.as_mut_slice(),
@@ -86,7 +89,8 @@ fn print_times<K: Display>(rt: &HostRuntime, events: usize, times: &[K]) -> anyh
 fn print_fault(rt: &HostRuntime, fault: NetworkFault, ring: &[u16]) -> anyhow::Result<()> {
     let number = fault.number();
     let place = fault.place();
-    print!(rt; "refused {number} network {place}")?;
+    let layer = fault.layer();
+    print!(rt; "refused {number} {layer} {place}")?;
     if let NetworkFault::Ring { count } = fault {
         print!(rt; " ring")?;
         for event in ring.iter().take(count) {

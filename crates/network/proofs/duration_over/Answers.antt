@@ -1,18 +1,13 @@
-use Rattle.std.proofs.Common.{◌≡◌, ◌<◌, refl, ap, arith}
-use Rattle.std.proofs.lemmas.List.{get_or_read}
-use Rattle.std.proofs.lemmas.Bool.{false≢true}
-use Rattle.network.specs.Reckoning.{arc_at}
-use Rattle.network.proofs.Strays.{some_at, some_none}
+use Rattle.std.proofs.Common.{rules, arith, ◌<◌, ◌≤◌}
+use Rattle.std.proofs.lemmas.Iterator.{cases_from_any, YieldsList-from_slice}
+use Rattle.std.proofs.lemmas.Iterator.Search.{true_from_Any}
+use Rattle.network.specs.declared.Arc.{Arc}
+use Rattle.network.proofs.Strays.{some_at}
 use Rattle.network.proofs.duration_over.Goals as goal
-
-pub returns-then-size-gt-DURATION_SIZE : goal.returns-then-size-gt-DURATION_SIZE
-returns-then-size-gt-DURATION_SIZE g c =
-    let t = g.K.Kind.time in
-    let read : c.arc-item.result ≡ arc_at t c.args.arcs.now c.loop-arc.arc-index = get_or_read _ _ _ c.loop-arc-test.true c.arc-item.is _ in
-    let same = ap (λ a. t.size a.duration) read in
-    ((λ _. some_at (λ a. 100000 < t.size a.duration) (record { from = 0; to = 0; duration = t.none }) c.args.arcs.now c.loop-arc.arc-index c.loop-arc-test.true (omega (arith, c.size.ensures))), (λ _. refl))
 
 pub returns : goal.returns
 returns g c =
     let t = g.K.Kind.time in
-    ((λ e. absurd (false≢true e)), (λ s. absurd (some_none (λ a. 100000 < t.size a.duration) (record { from = 0; to = 0; duration = t.none }) c.args.arcs.now (λ k h over. let p = c.loop-arc.invariant k (omega arith) in omega arith) s)))
+    let r = cases_from_any _ _ _ (λ (a : Arc g.row.K.Denot). 100000 < t.size a.duration) (λ a. t.size a.duration ≤ 100000) c.any.ensures.ran (YieldsList-from_slice c.args.arcs.now c.iter.ensures.rest) (λ y b k. search rules) (λ y b k. search rules) in
+    let blank : Arc g.row.K.Denot = record { from = 0; to = 0; duration = t.none } in
+    ((λ e. let w = rw e at r in some_at (λ a. 100000 < t.size a.duration) blank c.args.arcs.now w.0 w.1 (w.2 blank)), (λ s. true_from_Any (λ (a : Arc g.row.K.Denot). 100000 < t.size a.duration) (λ a. t.size a.duration ≤ 100000) _ _ (λ y p q. omega arith) r s.1 (s.0, s.2, s.3) s.4))

@@ -1,40 +1,40 @@
 use Rattle.std.proofs.Common.{◌≡◌, ◌<◌, length, ap, arith, rules}
 use Rattle.std.proofs.lemmas.List.{get_or_read}
 use Rattle.network.specs.Reckoning.{arc_at}
-use Rattle.network.proofs.Rounds.{arc_is, arc_starts, arc_ends, arc_fits, brings, none_not, round_keeps, round_takes}
+use Rattle.network.proofs.Rounds.{arc_is, arc_starts, arc_ends, arc_fits, brings, none_not, round_keeps, round_takes, sound_at}
 use Rattle.network.proofs.round.Goals as goal
 use Rattle.network.proofs.round.Goals.{then-not-compare, else-not-compare, In-Some}
 
 pub offset_bounds-old-arc : goal.offset_bounds-old-arc
 offset_bounds-old-arc g c =
-    let starts = arc_starts c.args.old.now c.requires.sound c.loop-i-test.true c.index-arcs-i.is in
-    let ends = arc_ends c.args.old.now c.requires.sound c.loop-i-test.true c.index-arcs-i.is in omega arith
+    let starts = arc_starts c.args.old.now (sound_at c.args.old.now c.args.kept.now.limits c.requires.lengths.0) c.loop-i-test.true c.arc-item.is in
+    let ends = arc_ends c.args.old.now (sound_at c.args.old.now c.args.kept.now.limits c.requires.lengths.0) c.loop-i-test.true c.arc-item.is in omega arith
 
 pub bounds-old-arc : goal.bounds-old-arc
 bounds-old-arc g c =
-    let starts = arc_starts c.args.old.now c.requires.sound c.loop-i-test.true c.index-arcs-i.is in
-    let ends = arc_ends c.args.old.now c.requires.sound c.loop-i-test.true c.index-arcs-i.is in omega arith
+    let starts = arc_starts c.args.old.now (sound_at c.args.old.now c.args.kept.now.limits c.requires.lengths.0) c.loop-i-test.true c.arc-item.is in
+    let ends = arc_ends c.args.old.now (sound_at c.args.old.now c.args.kept.now.limits c.requires.lengths.0) c.loop-i-test.true c.arc-item.is in omega arith
 
 pub offset_bounds-new-end : goal.offset_bounds-new-end
-offset_bounds-new-end g c = let h = arc_ends c.args.old.now c.requires.sound c.loop-i-test.true c.index-arcs-i.is in search rules
+offset_bounds-new-end g c = let h = arc_ends c.args.old.now (sound_at c.args.old.now c.args.kept.now.limits c.requires.lengths.0) c.loop-i-test.true c.arc-item.is in search rules
 
 pub bounds-new-end : goal.bounds-new-end
-bounds-new-end g c = let h = arc_ends c.args.old.now c.requires.sound c.loop-i-test.true c.index-arcs-i.is in search rules
+bounds-new-end g c = let h = arc_ends c.args.old.now (sound_at c.args.old.now c.args.kept.now.limits c.requires.lengths.0) c.loop-i-test.true c.arc-item.is in search rules
 
 pub offset_bounds-new-end-then-not-compare : goal.offset_bounds-new-end-then-not-compare
 offset_bounds-new-end-then-not-compare g c = offset_bounds-new-end g (goal.at.offset_bounds-new-end-then-not-compare g c).In-Some
 
 pub bounds-new-end-then-not-compare : goal.bounds-new-end-then-not-compare
-bounds-new-end-then-not-compare g c = let h = arc_ends c.args.old.now c.requires.sound c.loop-i-test.true c.index-arcs-i.is in search rules
+bounds-new-end-then-not-compare g c = let h = arc_ends c.args.old.now (sound_at c.args.old.now c.args.kept.now.limits c.requires.lengths.0) c.loop-i-test.true c.arc-item.is in search rules
 
 pub bounds-from-end : goal.bounds-from-end
-bounds-from-end g c = let h = arc_ends c.args.old.now c.requires.sound c.loop-i-test.true c.index-arcs-i.is in search rules
+bounds-from-end g c = let h = arc_ends c.args.old.now (sound_at c.args.old.now c.args.kept.now.limits c.requires.lengths.0) c.loop-i-test.true c.arc-item.is in search rules
 
 pub unreachable-requires : goal.unreachable-requires
 unreachable-requires g c =
-    let starts = arc_starts c.args.old.now c.requires.sound c.loop-i-test.true c.index-arcs-i.is in
-    let ends = arc_ends c.args.old.now c.requires.sound c.loop-i-test.true c.index-arcs-i.is in
-    none_not _ _ (arc_fits c.args.old.now c.requires.sound c.loop-i-test.true c.index-arcs-i.is c.index-old-arc.is (omega arith) c.requires.sized) c.in-None.ensures
+    let starts = arc_starts c.args.old.now (sound_at c.args.old.now c.args.kept.now.limits c.requires.lengths.0) c.loop-i-test.true c.arc-item.is in
+    let ends = arc_ends c.args.old.now (sound_at c.args.old.now c.args.kept.now.limits c.requires.lengths.0) c.loop-i-test.true c.arc-item.is in
+    none_not _ _ (arc_fits c.args.old.now (sound_at c.args.old.now c.args.kept.now.limits c.requires.lengths.0) c.loop-i-test.true c.arc-item.is c.index-old-arc.is (omega arith) c.requires.sized) c.in-None.ensures
 
 pub loop-i-preserved : goal.loop-i-preserved
 loop-i-preserved g c =
@@ -42,13 +42,13 @@ loop-i-preserved g c =
     let i = c.loop-i.i in
     let laws = g.met.K.Kind.laws in
     let turn = c.loop-i-test.true in
-    let end : c.index-arcs-i.result.to ≡ (arc_at g.K.Kind.time c.args.arcs.now i).to = ap (λ a. a.to) (arc_is old c.requires.sound turn c.index-arcs-i.is) in
-    let inside = arc_ends old c.requires.sound turn c.index-arcs-i.is in
-    let in_new : c.index-arcs-i.result.to < length c.loop-i.new = omega arith in
-    let in_from : c.index-arcs-i.result.to < length c.loop-i.from = omega arith in
-    let brought = brings old c.requires.sound turn c.index-arcs-i.is c.index-old-arc.is c.in-Some.ensures in
+    let end : c.arc-item.result.to ≡ (arc_at g.K.Kind.time c.args.kept.now.arcs.now i).to = ap (λ a. a.to) (arc_is old (sound_at c.args.old.now c.args.kept.now.limits c.requires.lengths.0) turn c.arc-item.is) in
+    let inside = arc_ends old (sound_at c.args.old.now c.args.kept.now.limits c.requires.lengths.0) turn c.arc-item.is in
+    let in_new : c.arc-item.result.to < length c.loop-i.new = omega arith in
+    let in_from : c.arc-item.result.to < length c.loop-i.from = omega arith in
+    let brought = brings old (sound_at c.args.old.now c.args.kept.now.limits c.requires.lengths.0) turn c.arc-item.is c.index-old-arc.is c.in-Some.ensures in
     let there = get_or_read _ _ _ in_new c.index-new-end.is g.K.Kind.time.none in
     elim c.if-not-compare.branch [
-      | then-not-compare w ↦ rw (w.new-is, w.from-is) (round_takes laws c.args.arcs.now i old c.loop-i.new c.loop-i.from c.index-arcs-i.result.to c.in-Some.x end brought inside in_new in_from (cc) c.loop-i.invariant)
-      | else-not-compare w ↦ rw (w.new-is, w.from-is) (round_keeps laws c.args.arcs.now i old c.loop-i.new c.loop-i.from c.loop-i.invariant (cc))
+      | then-not-compare w ↦ rw (w.new-is, w.from-is) (round_takes laws c.args.kept.now.arcs.now i old c.loop-i.new c.loop-i.from c.arc-item.result.to c.in-Some.x end brought inside in_new in_from (cc) c.loop-i.invariant)
+      | else-not-compare w ↦ rw (w.new-is, w.from-is) (round_keeps laws c.args.kept.now.arcs.now i old c.loop-i.new c.loop-i.from c.loop-i.invariant (cc))
     ]

@@ -9,55 +9,60 @@ use Rattle.network.proofs.settle.Goals as goal
 pub loop-k-init : goal.loop-k-init
 loop-k-init g c =
     let laws = g.met.K.Kind.laws in
-    (rw c.copy_from_slice.ensures.after (latest_none laws _ _ c.requires.sound c.requires.sized), λ j h. absurd (omega arith), λ h. absurd (omega arith))
+    let limits = c.args.kept.now.limits in
+    (rw c.copy_from_slice.ensures.after (latest_none laws _ _ limits), λ j h. absurd (omega arith), λ h. absurd (omega arith))
 
 pub slice_bounds-row-end : goal.slice_bounds-row-end
-slice_bounds-row-end g c = let h = row_ends c.loop-k.k (length c.args.floors.now) (length c.args.floors.now) c.loop-k-test.true in omega arith
+slice_bounds-row-end g c = let h = row_ends c.loop-k.k (length c.args.kept.now.floors.now) (length c.args.kept.now.floors.now) c.loop-k-test.true in omega arith
 
 pub round-requires : goal.round-requires
 round-requires g c =
     let laws = g.met.K.Kind.laws in
-    let n = length c.args.floors.now in
+    let limits = c.args.kept.now.limits in
+    let n = length c.args.kept.now.floors.now in
     let k = c.loop-k.k in
     let h = row_ends k n n c.loop-k-test.true in
     let same : length c.loop-k.times ≡ n = omega arith in
     let long : length (take (k * n + n - k * n) (drop (k * n) c.loop-k.rows)) ≡ n = simp (length-take, length-drop) (omega arith) in
-    record { lengths = (omega arith, long ∙ sym same); sound = rw same c.requires.sound; sized = latest_sized laws _ _ c.requires.sound c.requires.sized k _ c.loop-k.invariant.0 (omega arith) }
+    record { lengths = (omega arith, (omega arith, long ∙ sym same)); sized = latest_sized laws _ _ limits k _ c.loop-k.invariant.0 (omega arith) }
 
 pub returns-in-None : goal.returns-in-None
 returns-in-None g c =
     let laws = g.met.K.Kind.laws in
-    let n = length c.args.floors.now in
+    let limits = c.args.kept.now.limits in
+    let n = length c.args.kept.now.floors.now in
     let k = c.loop-k.k in
     let h = row_ends k n n c.loop-k-test.true in
     let part : length (take (k * n + n - k * n) (drop (k * n) c.loop-k.rows)) ≡ n = simp (length-take, length-drop) (omega arith) in
     let long : length c.round.new.from ≡ n = c.round.auto.from ∙ part in
     let long_new : length c.round.new.new ≡ n = omega (arith, c.round.auto.new) in
-    settles laws _ _ c.requires.sound c.requires.sized c.requires.few k _ c.round.new.new c.round.new.from c.loop-k-test.true c.loop-k.invariant.0 c.round.ensures (λ v in_v. c.in-None.ensures v (omega arith))
+    settles laws _ _ limits k _ c.round.new.new c.round.new.from c.loop-k-test.true c.loop-k.invariant.0 c.round.ensures (λ v in_v. c.in-None.ensures v (omega arith))
 
 pub returns-then-k-n : goal.returns-then-k-n
 returns-then-k-n g c =
     let laws = g.met.K.Kind.laws in
-    let n = length c.args.floors.now in
+    let limits = c.args.kept.now.limits in
+    let n = length c.args.kept.now.floors.now in
     let k = c.loop-k.k in
     let h = row_ends k n n c.loop-k-test.true in
     let part : length (take (k * n + n - k * n) (drop (k * n) c.loop-k.rows)) ≡ n = simp (length-take, length-drop) (omega arith) in
     let long : length c.round.new.from ≡ n = c.round.auto.from ∙ part in
     let long_new : length c.round.new.new ≡ n = omega (arith, c.round.auto.new) in
-    let next = latest_more laws _ _ c.requires.sound c.requires.sized k _ c.round.new.new c.round.new.from (omega arith) c.loop-k.invariant.0 c.round.ensures long_new in
-    let level : Level g.K.Kind.time c.args.floors.now c.args.arcs.now k c.round.new.from = record { old = c.loop-k.times; new = c.round.new.new; is_old = c.loop-k.invariant.0; is_new = next; round = c.round.ensures } in
-    rising c.args.floors.now k (k * n + n - k * n) c.in-Some.v c.loop-k.rows c.round.new.from long (omega arith) c.if-k-n.true c.loop-k.invariant.1 level c.in-Some.ensures.0 c.in-Some.ensures.1
+    let next = latest_more laws _ _ limits k _ c.round.new.new c.round.new.from (omega arith) c.loop-k.invariant.0 c.round.ensures long_new in
+    let level : Level g.K.Kind.time c.args.kept.now.floors.now c.args.kept.now.arcs.now k c.round.new.from = record { old = c.loop-k.times; new = c.round.new.new; is_old = c.loop-k.invariant.0; is_new = next; round = c.round.ensures } in
+    rising c.args.kept.now.floors.now k (k * n + n - k * n) c.in-Some.v c.loop-k.rows c.round.new.from long (omega arith) c.if-k-n.true c.loop-k.invariant.1 level c.in-Some.ensures.0 c.in-Some.ensures.1
 
 pub loop-k-preserved : goal.loop-k-preserved
 loop-k-preserved g c =
     let laws = g.met.K.Kind.laws in
-    let n = length c.args.floors.now in
+    let limits = c.args.kept.now.limits in
+    let n = length c.args.kept.now.floors.now in
     let k = c.loop-k.k in
     let h = row_ends k n n c.loop-k-test.true in
     let part : length (take (k * n + n - k * n) (drop (k * n) c.loop-k.rows)) ≡ n = simp (length-take, length-drop) (omega arith) in
     let long : length c.round.new.from ≡ n = c.round.auto.from ∙ part in
     let long_new : length c.round.new.new ≡ n = omega (arith, c.round.auto.new) in
-    let next = latest_more laws _ _ c.requires.sound c.requires.sized k _ c.round.new.new c.round.new.from (omega arith) c.loop-k.invariant.0 c.round.ensures long_new in
-    let level : Level g.K.Kind.time c.args.floors.now c.args.arcs.now k c.round.new.from = record { old = c.loop-k.times; new = c.round.new.new; is_old = c.loop-k.invariant.0; is_new = next; round = c.round.ensures } in
-    let levels = levels_more c.args.floors.now k (k * n + n - k * n) c.loop-k.rows c.round.new.from long (omega arith) c.loop-k.invariant.1 level in
+    let next = latest_more laws _ _ limits k _ c.round.new.new c.round.new.from (omega arith) c.loop-k.invariant.0 c.round.ensures long_new in
+    let level : Level g.K.Kind.time c.args.kept.now.floors.now c.args.kept.now.arcs.now k c.round.new.from = record { old = c.loop-k.times; new = c.round.new.new; is_old = c.loop-k.invariant.0; is_new = next; round = c.round.ensures } in
+    let levels = levels_more c.args.kept.now.floors.now k (k * n + n - k * n) c.loop-k.rows c.round.new.from long (omega arith) c.loop-k.invariant.1 level in
     (rw c.copy_from_slice-in-loop-k.ensures.after next, levels, λ _. omega arith)

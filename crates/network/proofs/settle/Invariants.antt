@@ -4,6 +4,6 @@ use Rattle.network.proofs.settle.Given as goal
 
 abbrev pub invariant-loop-k : goal.invariant-loop-k
 invariant-loop-k g l =
-    Latest g.K.Kind.time l.floors l.arcs l.k l.times
-    × Levels g.K.Kind.time l.floors l.arcs l.k l.rows
-    × (0 < l.k → l.k < length l.floors)
+    Latest g.K.Kind.time l.kept.floors.now l.kept.arcs.now l.k l.times
+    × Levels g.K.Kind.time l.kept.floors.now l.kept.arcs.now l.k l.rows
+    × (0 < l.k → l.k < length l.kept.floors.now)

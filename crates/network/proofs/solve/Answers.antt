@@ -1,49 +1,35 @@
-use Rattle.std.proofs.Common.{◌≡◌, ℕ, ◌-◌, List, length, take, drop, refl, subst, arith}
-use Rattle.network.specs.Network.{Ring, Names}
-use Rattle.network.specs.Reckoning.{placed}
+use Rattle.std.proofs.Common.{◌-◌, length, take, drop, refl, arith}
 use Rattle.network.proofs.Chains.{chain_known}
-use Rattle.network.proofs.Foremosts.{named, part_is, part_long}
+use Rattle.network.proofs.Foremosts.{named, part_long}
 use Rattle.network.proofs.Solved.{settled_least, settled_no_ring, ring_no_table}
+use Rattle.network.proofs.solve.Goals.{in-None, in-Some}
 use Rattle.network.proofs.solve.Goals as goal
-
-pub returns-in-None : goal.returns-in-None
-returns-in-None g c =
-    let laws = g.met.K.Kind.laws in
-    let s = c.in-None.ensures in
-    (settled_least laws _ _ c.requires.sound c.requires.sized c.requires.few _ s, settled_no_ring laws _ _ c.requires.sound c.requires.sized c.requires.few _ s, refl)
 
 pub name_ring-requires : goal.name_ring-requires
 name_ring-requires g c =
     let t = g.K.Kind.time in
-    let arcs = c.args.arcs.now in
-    let path = c.trace-start.new.path in
-    let s = c.trace-start.result.0 in
-    let e = c.trace-start.result.1 in
-    let r = c.trace-start.ensures in
+    let s = c.trace-circuit.result.start in
+    let e = c.trace-circuit.result.end in
+    let r = c.trace-circuit.ensures in
     let low = r.0 in
     let high = r.1 in
-    let long : length (take (e - s) (drop s path)) ≡ e - s = part_long path s e (omega arith) in
-    let P : List ℕ → Type 0 = Ring t (placed t arcs) in
-    let ring : Ring t (placed t arcs) (take (e - s) (drop s path)) = subst P (part_is path s e low) r.2 in
+    let long = part_long c.trace-circuit.new.path s e (omega arith) in
     record {
       some = (omega arith, omega arith);
-      known = chain_known t arcs ring.event ring.event (take (e - s) (drop s path)) ring.closed;
+      known = chain_known t c.args.kept.now.arcs.now r.2.event r.2.event (take (e - s) (drop s c.trace-circuit.new.path)) r.2.closed;
     }
 
-pub returns-in-Some : goal.returns-in-Some
-returns-in-Some g c =
+pub returns : goal.returns
+returns g c =
     let laws = g.met.K.Kind.laws in
-    let t = g.K.Kind.time in
-    let arcs = c.args.arcs.now in
-    let path = c.trace-start.new.path in
-    let s = c.trace-start.result.0 in
-    let e = c.trace-start.result.1 in
-    let r = c.trace-start.ensures in
-    let low = r.0 in
-    let high = r.1 in
-    let long : length (take (e - s) (drop s path)) ≡ e - s = part_long path s e (omega arith) in
-    let P : List ℕ → Type 0 = Ring t (placed t arcs) in
-    let ring : Ring t (placed t arcs) (take (e - s) (drop s path)) = subst P (part_is path s e low) r.2 in
-    let Q : ℕ → Type 0 = λ m. Names t (placed t arcs) (take m c.name_ring.new.ring) in
-    let R : ℕ → Type 0 = λ m. drop m c.name_ring.new.ring ≡ drop m c.args.ring.now in
-    (subst Q long (named laws (length c.args.floors.now) arcs c.requires.sound _ _ c.requires.few ring c.name_ring.ensures.turned), ring_no_table laws _ _ c.requires.sound c.requires.sized c.requires.few _ ring, subst R long c.name_ring.ensures.rest, omega arith)
+    let limits = c.args.kept.now.limits in
+    elim c.match-settle.branch [
+      | in-None w ↦
+          (let s = w.in-None.ensures in
+          rw (w.times-is, w.ring-is, w.result-is, w.copy_from_slice.ensures.after) (settled_least laws _ _ limits _ s, settled_no_ring laws _ _ limits _ s, refl))
+      | in-Some w ↦
+          (let r = w.trace-circuit.ensures in
+          let high = r.1 in
+          let long = part_long w.trace-circuit.new.path w.trace-circuit.result.start w.trace-circuit.result.end (omega arith) in
+          rw (w.times-is, w.ring-is, w.result-is) (record { count = _; is = refl; names = named laws (length c.args.kept.now.floors.now) _ limits.sound _ _ limits.few r.2 w.name_ring.ensures.turned; none = ring_no_table laws _ _ limits _ r.2; rest = w.name_ring.ensures.rest; few = omega arith }, refl))
+    ]

@@ -5,9 +5,9 @@ use Rattle.network.proofs.trace.Given as goal
 
 abbrev pub invariant-loop-seen : goal.invariant-loop-seen
 invariant-loop-seen g l =
-    Traced g.K.Kind.time l.floors l.arcs l.rows l.path l.v l.count l.event
-    × Marks g.K.Kind.time l.arcs (length l.floors) l.seen l.path l.count
-    × (l.count ≤ length l.floors)
+    Traced g.K.Kind.time l.kept.floors.now l.kept.arcs.now l.rows l.path l.v l.count l.event
+    × Marks g.K.Kind.time l.kept.arcs.now (length l.kept.floors.now) l.seen l.path l.count
+    × (l.count ≤ length l.kept.floors.now)
 
 abbrev pub decreases-loop-seen : goal.decreases-loop-seen
-decreases-loop-seen g l = length l.floors - l.count
+decreases-loop-seen g l = length l.kept.floors.now - l.count
