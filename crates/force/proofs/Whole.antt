@@ -1,9 +1,10 @@
 -- All arcs that are added are all that are in force.
-use Rattle.std.proofs.Common.{◌≡◌, ℕ, ◌⊎◌, List, length, sym, subst, inl, inr, arith}
+use Rattle.std.proofs.Common.{◌≡◌, ℕ, ◌⊎◌, length, sym, subst, inl, inr, arith}
 use Rattle.kinds.specs.Time.{Time}
 use Rattle.network.specs.declared.Arc.{Arc}
 use Rattle.records.specs.Records.{track_at}
 use Rattle.records.specs.Register.{Register}
+use Rattle.force.specs.declared.arcs.ArcList.{ArcList}
 use Rattle.force.specs.Added.{Added, Listed, RunArcs, OrderArcs, ConnectionArcs, Follows}
 use Rattle.force.specs.Force.{InForce, running, dwell, connection, departures, arrivals, meeting, Ahead, run_in, track_in}
 use Rattle.force.proofs.Adds.{added_as, added_then, listed}
@@ -39,10 +40,10 @@ module _ {K : Type 0} (t : Time K) (R : Register K) where
   back a (arrivals u v h d) = inr (ahead_order u v a h (inr (inl d)))
   back a (meeting u v h d) = inr (ahead_order u v a h (inr (inr d)))
 
-  pub whole : (ws xs ys zs : List (Arc K)) (k m n : ℕ) → Added t (RunArcs t R (length R.runs)) ws 0 xs k → Added t (ConnectionArcs t R (length R.connections)) xs k ys m → Added t (OrderArcs t R (length R.runs)) ys m zs n → Listed t (InForce t R) zs n
-  whole ws xs ys zs k m n a b c =
+  pub whole : (k l m n : ArcList K) → k.count ≡ 0 → Added t (RunArcs t R (length R.runs)) k l → Added t (ConnectionArcs t R (length R.connections)) l m → Added t (OrderArcs t R (length R.runs)) m n → Listed t (InForce t R) n.arcs.now n.count
+  whole k l m n e a b c =
       let A : Arc K → Type 0 = RunArcs t R (length R.runs) in
       let C : Arc K → Type 0 = ConnectionArcs t R (length R.connections) in
       let O : Arc K → Type 0 = OrderArcs t R (length R.runs) in
       let RC : Arc K → Type 0 = λ a. A a ⊎ C a in
-      listed t (InForce t R) ws zs n (added_as t From (InForce t R) ws zs 0 n there back (added_then t RC O ws ys zs 0 m n (added_then t A C ws xs ys 0 k m a b) c))
+      listed t (InForce t R) k n e (added_as t From (InForce t R) k n there back (added_then t RC O k m n (added_then t A C k l m a b) c))

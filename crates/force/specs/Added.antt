@@ -8,15 +8,19 @@ use Rattle.records.specs.declared.Track.{Track}
 use Rattle.records.specs.declared.Run.{Run}
 use Rattle.records.specs.declared.Connection.{Connection}
 use Rattle.records.specs.Register.{Register}
+use Rattle.force.specs.declared.arcs.ArcList.{ArcList}
 use Rattle.force.specs.Force.{Running, Dwell, Connects, Departures, Arrivals, Meeting, run_in, track_in, track_under, connection_in}
 use Rattle.force.specs.Floors.{departure_floor_lem, arrival_floor_lem, floor_of}
 
--- the places of ys from m up to n hold exactly the arcs of P, and those below m are as in xs
-pub record Added {K : Type 0} (t : Time K) (P : Arc K → Type 0) (xs : List (Arc K)) (m : ℕ) (ys : List (Arc K)) (n : ℕ) : Type 0 where
-  pub grows : m ≤ n
-  pub kept : (k : ℕ) → k < m → arc_at t ys k ≡ arc_at t xs k
-  pub each : (k : ℕ) → m ≤ k → k < n → P (arc_at t ys k)
-  pub all : (a : Arc K) → P a → (k : ℕ) × ((m ≤ k) × (k < n) × (arc_at t ys k ≡ a))
+-- The arcs of P are added to a list: the places from its old count up to its new one hold exactly them, and those below are as they
+-- were. The list is in the same memory.
+pub record Added {K : Type 0} (t : Time K) (P : Arc K → Type 0) (l l' : ArcList K) : Type 0 where
+  pub same : l'.arcs.ghost_name ≡ l.arcs.ghost_name
+  pub long : length l'.arcs.now ≡ length l.arcs.now
+  pub grows : l.count ≤ l'.count
+  pub kept : (k : ℕ) → k < l.count → arc_at t l'.arcs.now k ≡ arc_at t l.arcs.now k
+  pub each : (k : ℕ) → l.count ≤ k → k < l'.count → P (arc_at t l'.arcs.now k)
+  pub all : (a : Arc K) → P a → (k : ℕ) × ((l.count ≤ k) × (k < l'.count) × (arc_at t l'.arcs.now k ≡ a))
 
 -- the first n places hold exactly the arcs of P
 pub record Listed {K : Type 0} (t : Time K) (P : Arc K → Type 0) (ys : List (Arc K)) (n : ℕ) : Type 0 where

@@ -4,9 +4,7 @@ use Rattle.force.specs.declared.work.Work.{Work}
 
 -- how long the working memories are
 pub record WorkLengths : Type 0 where
-  pub counts : ℕ
-  pub sums : ℕ
-  pub befores : ℕ
+  pub places : ℕ
   pub floors : ℕ
   pub arcs : ℕ
   pub tables : ℕ
@@ -14,9 +12,7 @@ pub record WorkLengths : Type 0 where
 
 -- each has its listed length
 pub record WorkListed (l : WorkLengths) : Type 0 where
-  pub counts : l.counts ≡ 512
-  pub sums : l.sums ≡ 512
-  pub befores : l.befores ≡ 512
+  pub places : l.places ≡ 512
   pub floors : l.floors ≡ 1024
   pub arcs : l.arcs ≡ 9728
   pub tables : l.tables ≡ 2048
@@ -25,9 +21,7 @@ pub record WorkListed (l : WorkLengths) : Type 0 where
 module _ {K : Type 0} where
   abbrev pub work_lengths : Work K → WorkLengths
   work_lengths w = record {
-    counts = length w.counts.now;
-    sums = length w.sums.now;
-    befores = length w.befores.now;
+    places = length w.places.now;
     floors = length w.floors.now;
     arcs = length w.arcs.now;
     tables = length w.tables.now;
@@ -36,9 +30,7 @@ module _ {K : Type 0} where
 
   -- the same memories are lent after a call as before it, as long as they were
   pub record SameWork (w w' : Work K) : Type 0 where
-    pub counts : w'.counts.ghost_name ≡ w.counts.ghost_name
-    pub sums : w'.sums.ghost_name ≡ w.sums.ghost_name
-    pub befores : w'.befores.ghost_name ≡ w.befores.ghost_name
+    pub places : w'.places.ghost_name ≡ w.places.ghost_name
     pub floors : w'.floors.ghost_name ≡ w.floors.ghost_name
     pub arcs : w'.arcs.ghost_name ≡ w.arcs.ghost_name
     pub tables : w'.tables.ghost_name ≡ w.tables.ghost_name

@@ -8,5 +8,5 @@ mod work;
 
 pub use arcs::fill_arcs;
 pub use floors::fill_floors;
-pub use plan::{reckon_plan, reckon_within};
+pub use plan::reckon_plan;
 pub use work::Work;

@@ -4,14 +4,13 @@ ghost use Rattle.force.specs.Work.{WorkListed, work_lengths};
 
 use kinds::Kind;
 use network::Arc;
+use records::Place;
 
-/// The working memory of a reckoning, lent: 512 counts, sums and befores, 1,024 floors, 9,728 arcs, 2,048 times of two tables, and
+/// The working memory of a reckoning, lent: 512 places of orders, 1,024 floors, 9,728 arcs, 2,048 times of two tables, and
 /// 1,050,624 marks. What it holds is of no account, before a call or after it.
 #[derive(Drop)]
 pub struct Work<'w, K> {
-    pub counts: &'w mut [u16],
-    pub sums: &'w mut [u32],
-    pub befores: &'w mut [u16],
+    pub places: &'w mut [Place],
     pub floors: &'w mut [K],
     pub arcs: &'w mut [Arc<K>],
     pub tables: &'w mut [K],
@@ -23,9 +22,7 @@ impl<K: Kind> Work<'_, K> {
     pub fn is_listed(&self) -> bool
         ensures { Decides result (WorkListed (work_lengths self.now)) }
     {
-        self.counts.len() == 512
-            && self.sums.len() == 512
-            && self.befores.len() == 512
+        self.places.len() == 512
             && self.floors.len() == 1_024
             && self.arcs.len() == 9_728
             && self.tables.len() == 2_048

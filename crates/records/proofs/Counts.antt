@@ -1,9 +1,14 @@
 -- Laws of counts, totals and places. Assumes nothing.
-use Rattle.std.proofs.Common.{◌≡◌, ℕ, zero, suc, ◌+◌, ◌-◌, ◌*◌, ◌<◌, ◌≤◌, ◌≢◌, ◌⊎◌, List, length, get_or, set, sym, refl, ap, ◌∙◌, subst, inl, inr, add-one, arith, below_more}
-use Rattle.std.proofs.lemmas.List.{get_or-set_same, get_or-set_other}
+use Rattle.std.proofs.Common.{◌≡◌, ℕ, zero, suc, ◌+◌, ◌-◌, ◌*◌, ◌<◌, ◌≤◌, ◌≢◌, ◌⊎◌, List, length, get_or, set, Some, None, Option, slice_index_or, sym, refl, ap, ◌∙◌, subst, inl, inr, add-one, arith, below_more, length-set, replicate}
+use Rattle.std.proofs.lemmas.List.{get_or_read, get_or-set_same, get_or-set_other, get_or-replicate}
 use Rattle.std.proofs.lemmas.Bool.{eq-eqb, ne_eqb, cases_eq, cases_lt, cases_order}
 use Rattle.std.proofs.lemmas.Bool.Decides.{nat_tests}
-use Rattle.records.specs.Places.{count, earlier, total, place, Ordered, Previous, Laid, PlacesApart, PlacesKept}
+use Rattle.kinds.specs.Time.{Time}
+use Rattle.records.specs.declared.Run.{Run}
+use Rattle.records.specs.declared.places.Place.{Place}
+use Rattle.records.specs.declared.places.Tally.{Tally}
+use Rattle.records.specs.Records.{run_at, track_of_lem, OnTracks}
+use Rattle.records.specs.Places.{count, earlier, total, place, Ordered, Previous, Laid, laid_for, PlacesApart, PlacesKept}
 
 pub count_hit : (f : ℕ → ℕ) (x j : ℕ) → f j ≡ x → count f x (j + 1) ≡ count f x j + 1
 count_hit f x j e = let h = eq-eqb (f j) x e in rw (add-one, h) (omega arith)
@@ -109,65 +114,104 @@ place_kept f g i j l same =
     let m = total_kept f g j (λ k h. same k (omega arith)) in omega arith
 
 -- the run before on a track, one run on
-pub previous_hit : (f : ℕ → ℕ) (x j : ℕ) → f j ≡ x → Previous f x (j + 1) (j + 1)
-previous_hit f x j e = record { within = omega arith; on = λ _. (let h : j + 1 - 1 ≡ j = omega arith in rw h e); none = λ k a b _. omega arith }
+pub previous_hit : (f : ℕ → ℕ) (x j : ℕ) → f j ≡ x → Previous f x (j + 1) (Some j)
+previous_hit f x j e = record { on = (omega arith, e); none = λ k a b _. omega arith }
 
-pub previous_miss : (f : ℕ → ℕ) (x j p : ℕ) → (f j ≡ x → ⊥) → Previous f x j p → Previous f x (j + 1) p
-previous_miss f x j p e h = record {
-  within = omega (arith, h.within);
-  on = h.on;
-  none = λ k a b here. elim (cases_lt k j) [ inl l ↦ h.none k a l here | inr l ↦ (let s : k ≡ j = omega arith in e (sym (ap f s) ∙ here)) ];
-}
+pub previous_miss : (f : ℕ → ℕ) (x j : ℕ) (o : Option ℕ) → (f j ≡ x → ⊥) → Previous f x j o → Previous f x (j + 1) o
+previous_miss f x j None e h = record { on = tt; none = λ k a b here. elim (cases_lt k j) [ inl l ↦ h.none k l tt here | inr l ↦ (let s : k ≡ j = omega arith in e (sym (ap f s) ∙ here)) ] }
+previous_miss f x j (Some p) e h = record { on = (omega (arith, h.on.0), h.on.1); none = λ k a b here. elim (cases_lt k j) [ inl l ↦ h.none k l b here | inr l ↦ (let s : k ≡ j = omega arith in e (sym (ap f s) ∙ here)) ] }
 
--- one more entry after those below j
-entry_more : (P : ℕ → ℕ → Type 0) (xs : List ℕ) (j v : ℕ) → j < length xs → ((k : ℕ) → k < j → P k (get_or xs k 0)) → P j v → (k : ℕ) → k < j + 1 → P k (get_or (set xs j v) k 0)
-entry_more P xs j v inside below here = below_more (λ k. P k (get_or (set xs j v) k 0)) j
+-- one more run is laid out
+pub laid_more : (f : ℕ → ℕ) (j : ℕ) (ps : List Place) (p : Place) → j < length ps → Laid f j ps → p.earlier ≡ earlier f j → p.sum ≡ total f j → Previous f (f j) j p.before → Laid f (j + 1) (set ps j p)
+laid_more f j ps p inside laid is_earlier is_sum is_before =
+    let more : (P : ℕ → Place → Type 0) → ((k : ℕ) → k < j → P k (laid_for ps k)) → P j p → (k : ℕ) → k < j + 1 → P k (laid_for (set ps j p) k) = λ P below here. below_more (λ k. P k (laid_for (set ps j p) k)) j
     (λ k h. let ne : k ≢ j = omega arith in rw get_or-set_other (below k h))
-    (rw (get_or-set_same xs j v 0 inside) here)
+    (rw (get_or-set_same ps j p (record { earlier = 0; sum = 0; before = None }) inside) here) in
+    record {
+      earlier = more (λ k q. q.earlier ≡ earlier f k) laid.earlier is_earlier;
+      sum = more (λ k q. q.sum ≡ total f k) laid.sum is_sum;
+      before = more (λ k q. Previous f (f k) k q.before) laid.before is_before;
+    }
 
-pub laid_more : (f : ℕ → ℕ) (j : ℕ) (cs ss bs : List ℕ) (c s b : ℕ) → j < length cs → j < length ss → j < length bs → Laid f j cs ss bs → c ≡ earlier f j → s ≡ total f j → Previous f (f j) j b → Laid f (j + 1) (set cs j c) (set ss j s) (set bs j b)
-laid_more f j cs ss bs c s b in_c in_s in_b laid is_c is_s is_b = record {
-  counted = entry_more (λ k v. v ≡ earlier f k) cs j c in_c laid.counted is_c;
-  summed = entry_more (λ k v. v ≡ total f k) ss j s in_s laid.summed is_s;
-  before = entry_more (λ k v. Previous f (f k) k v) bs j b in_b laid.before is_b;
+-- the track of run j, on which the runs below it are counted
+pub record Turn (f : ℕ → ℕ) (j x : ℕ) : Type 0 where
+  pub on : x ≡ f j
+  pub inside : x < 64
+  pub few : count f x j ≤ j
+  pub counted : count f x j ≡ earlier f j
+  pub below : total f j ≤ 512 * j
+  pub more : total f (j + 1) ≡ earlier f j + total f j
+
+pub turn : {K : Type 0} (t : Time K) (runs : List (Run K)) (j : ℕ) (r : Run K) → length runs ≤ 512 → OnTracks t runs → j < length runs → r ≡ get_or runs j r → Turn (track_of_lem t runs) j r.track
+turn t runs j r few tracks inside is =
+    let f = track_of_lem t runs in
+    let e : r ≡ run_at t runs j = get_or_read runs j r inside is _ in
+    let on : r.track ≡ f j = ap (λ x. x.track) e in
+    record {
+      on = on;
+      inside = omega (arith, tracks j inside);
+      few = count_small f r.track j;
+      counted = ap (λ (x : ℕ). count f x j) on;
+      below = total_small f 512 j (omega arith);
+      more = total_more f j;
+    }
+
+-- what is kept of each of 64 tracks after the runs below j
+abbrev pub tally_of : List Tally → ℕ → Tally
+tally_of ts x = slice_index_or ts x (record { count = 0; last = None })
+
+pub record Tallied (f : ℕ → ℕ) (j : ℕ) (ts : List Tally) : Type 0 where
+  pub long : length ts ≡ 64
+  pub counts : (x : ℕ) → x < 64 → (tally_of ts x).count ≡ count f x j
+  pub lasts : (x : ℕ) → x < 64 → Previous f x j (tally_of ts x).last
+
+pub tallied_none : (f : ℕ → ℕ) → Tallied f 0 (replicate 64 (record { count = 0; last = None }))
+tallied_none f = record {
+  long = refl;
+  counts = λ x h. ap (λ t. t.count) (get_or-replicate {A = Tally} 64 x (record { count = 0; last = None }) (record { count = 0; last = None }) h);
+  lasts = λ x h. rw (get_or-replicate {A = Tally} 64 x (record { count = 0; last = None }) (record { count = 0; last = None }) h) (record { on = tt; none = λ k a b e. absurd (omega arith) });
 }
 
--- what is kept for each track, one run on
-track_more : (P : ℕ → ℕ → Type 0) (xs : List ℕ) (track v : ℕ) → track < length xs → P track v → ((x : ℕ) → x < 64 → (x ≡ track → ⊥) → P x (get_or xs x 0)) → (x : ℕ) → x < 64 → P x (get_or (set xs track v) x 0)
-track_more P xs track v inside here other x h =
-    elim (cases_eq x track) [
-      | inl e ↦ (let Q : ℕ → Type 0 = λ y. P y (get_or (set xs track v) y 0) in subst Q (sym e) (rw (get_or-set_same xs track v 0 inside) here))
-      | inr ne ↦ rw (get_or-set_other xs track x v 0 ne) (other x h ne)
-    ]
+pub tallied_more : (f : ℕ → ℕ) (j : ℕ) (ts : List Tally) (x : ℕ) (t : Tally) → x ≡ f j → x < 64 → t.count ≡ count f x j + 1 → t.last ≡ Some j → Tallied f j ts → Tallied f (j + 1) (set ts x t)
+tallied_more f j ts x t on inside counted last old =
+    let same = get_or-set_same ts x t (record { count = 0; last = None }) (omega (arith, old.long)) in
+    let more : (P : ℕ → Tally → Type 0) → P x t → ((y : ℕ) → y < 64 → (y ≡ x → ⊥) → P y (tally_of ts y)) → (y : ℕ) → y < 64 → P y (tally_of (set ts x t) y) = λ P here other y h. elim (cases_eq y x) [
+      | inl e ↦ (let Q : ℕ → Type 0 = λ z. P z (tally_of (set ts x t) z) in subst Q (sym e) (rw same here))
+      | inr ne ↦ rw (get_or-set_other ts x y t (record { count = 0; last = None }) ne) (other y h ne)
+    ] in
+    record {
+      long = simp length-set old.long;
+      counts = more (λ y w. w.count ≡ count f y (j + 1)) (counted ∙ sym (count_hit f x j (sym on))) (λ y h ne. old.counts y h ∙ sym (count_miss f y j (λ here. ne (sym here ∙ sym on))));
+      lasts = more (λ y w. Previous f y (j + 1) w.last) (rw last (previous_hit f x j (sym on))) (λ y h ne. previous_miss f y j _ (λ here. ne (sym here ∙ sym on)) (old.lasts y h));
+    }
 
 pub tally_more : (f : ℕ → ℕ) (j : ℕ) (xs : List ℕ) (track v : ℕ) → track ≡ f j → track < length xs → v ≡ count f track j → ((x : ℕ) → x < 64 → get_or xs x 0 ≡ count f x j) → (x : ℕ) → x < 64 → get_or (set xs track (v + 1)) x 0 ≡ count f x (j + 1)
-tally_more f j xs track v e inside is old = track_more (λ x w. w ≡ count f x (j + 1)) xs track (v + 1) inside
-    (ap (λ (w : ℕ). w + 1) is ∙ sym (count_hit f track j (sym e)))
-    (λ x h ne. old x h ∙ sym (count_miss f x j (λ here. ne (sym here ∙ sym e))))
-
-pub last_more : (f : ℕ → ℕ) (j : ℕ) (xs : List ℕ) (track : ℕ) → track ≡ f j → track < length xs → ((x : ℕ) → x < 64 → Previous f x j (get_or xs x 0)) → (x : ℕ) → x < 64 → Previous f x (j + 1) (get_or (set xs track (j + 1)) x 0)
-last_more f j xs track e inside old = track_more (λ x w. Previous f x (j + 1) w) xs track (j + 1) inside
-    (previous_hit f track j (sym e))
-    (λ x h ne. previous_miss f x j _ (λ here. ne (sym here ∙ sym e)) (old x h))
+tally_more f j xs track v on inside is old x h =
+    elim (cases_eq x track) [
+      | inl e ↦ (let Q : ℕ → Type 0 = λ y. get_or (set xs track (v + 1)) y 0 ≡ count f y (j + 1) in subst Q (sym e) (get_or-set_same xs track (v + 1) 0 inside ∙ ap (λ (w : ℕ). w + 1) is ∙ sym (count_hit f track j (sym on))))
+      | inr ne ↦ get_or-set_other xs track x (v + 1) 0 ne ∙ old x h ∙ sym (count_miss f x j (λ here. ne (sym here ∙ sym on)))
+    ]
 
 -- the run before run i on its track x
-pub previous_of : (f : ℕ → ℕ) (n x i : ℕ) (cs ss bs : List ℕ) → Laid f n cs ss bs → i < n → f i ≡ x → Previous f x i (get_or bs i 0)
-previous_of f n x i cs ss bs laid inside e = let P : ℕ → Type 0 = λ y. Previous f y i (get_or bs i 0) in subst P e (laid.before i inside)
+pub previous_of : (f : ℕ → ℕ) (n x i : ℕ) (ps : List Place) → Laid f n ps → i < n → f i ≡ x → Previous f x i (laid_for ps i).before
+previous_of f n x i ps laid inside e = let P : ℕ → Type 0 = λ y. Previous f y i (laid_for ps i).before in subst P e (laid.before i inside)
 
 -- a step back to the run before passes one run of the track
-pub count_back : (f : ℕ → ℕ) (x p q : ℕ) → 0 < p → f (p - 1) ≡ x → Previous f x (p - 1) q → count f x p ≡ count f x q + 1
-count_back f x p q some on prev =
-    let still = count_still f x q (p - 1) prev.within prev.none in
-    let hit = count_hit f x (p - 1) on in
-    let e : p - 1 + 1 ≡ p = omega arith in
-    let same : count f x (p - 1 + 1) ≡ count f x p = ap (count f x) e in
+pub count_back : (f : ℕ → ℕ) (x j p : ℕ) → Previous f x j (Some p) → count f x j ≡ count f x p + 1
+count_back f x j p prev =
+    let still = count_still f x (p + 1) j (omega (arith, prev.on.0)) (λ k a b. prev.none k b (omega arith)) in
+    let hit = count_hit f x p prev.on.1 in
     omega arith
 
+-- with no run before, there is none to pass
+pub count_first : (f : ℕ → ℕ) (x j : ℕ) → Previous f x j None → count f x j ≡ 0
+count_first f x j prev = count_still f x 0 j (omega arith) (λ k a b. prev.none k b tt)
+
 -- what is laid out finds the byte
-pub laid_place : (f : ℕ → ℕ) (n i j : ℕ) (cs ss bs : List ℕ) → Laid f n cs ss bs → j < n → i < j → f i ≡ f j → (get_or ss j 0 + get_or cs i 0 ≡ place f i j) × (get_or ss j 0 + get_or cs i 0 < total f n)
-laid_place f n i j cs ss bs laid in_j below shared =
-    let c = laid.counted i (omega arith) in
-    let s = laid.summed j in_j in
+pub laid_place : (f : ℕ → ℕ) (n i j : ℕ) (ps : List Place) → Laid f n ps → j < n → i < j → f i ≡ f j → ((laid_for ps j).sum + (laid_for ps i).earlier ≡ place f i j) × ((laid_for ps j).sum + (laid_for ps i).earlier < total f n)
+laid_place f n i j ps laid in_j below shared =
+    let c = laid.earlier i (omega arith) in
+    let s = laid.sum j in_j in
     let h = place_below f n i j (record { below = below; inside = in_j; shared = shared }) in (omega arith, omega arith)
 
 -- a byte that is written is the byte of one order

@@ -1,2 +1,4 @@
 pub mod Counts
 pub mod Limits
+pub mod Walks
+pub mod Every

@@ -3,3 +3,4 @@ pub mod Places
 pub mod Register
 pub mod Stored
 pub mod Lent
+pub mod Entered

@@ -1,5 +1,6 @@
 -- Orders of runs that share a track, and the place of the setting of each. f j is the track of run j. Assumes nothing.
-use Rattle.std.specs.Prelude.{◌≡◌, ℕ, zero, suc, ◌+◌, ◌-◌, ◌<◌, ◌≤◌, cond, List, ◌==◌, ◌≢◌, slice_index}
+use Rattle.std.specs.Prelude.{◌≡◌, ℕ, zero, suc, ◌+◌, ◌<◌, cond, List, None, Option, IfSome, ◌==◌, ◌≢◌, slice_index_or}
+use Rattle.records.specs.declared.places.Place.{Place}
 
 -- how many of the runs below j are on track x
 abbrev pub count : (ℕ → ℕ) → ℕ → ℕ → ℕ
@@ -25,17 +26,20 @@ pub record Ordered (f : ℕ → ℕ) (n i j : ℕ) : Type 0 where
   pub inside : j < n
   pub shared : f i ≡ f j
 
--- p is one past the last of the runs below j on track x, and 0 if there is none
-pub record Previous (f : ℕ → ℕ) (x j p : ℕ) : Type 0 where
-  pub within : p ≤ j
-  pub on : 0 < p → f (p - 1) ≡ x
-  pub none : (k : ℕ) → p ≤ k → k < j → f k ≢ x
+-- the last of the runs below j on track x, if there is one
+pub record Previous (f : ℕ → ℕ) (x j : ℕ) (o : Option ℕ) : Type 0 where
+  pub on : IfSome o (λ p. (p < j) × (f p ≡ x))
+  pub none : (k : ℕ) → k < j → IfSome o (λ p. p < k) → f k ≢ x
+
+-- what is laid out for run k
+abbrev pub laid_for : List Place → ℕ → Place
+laid_for places k = slice_index_or places k (record { earlier = 0; sum = 0; before = None })
 
 -- what is laid out for the first n runs
-pub record Laid (f : ℕ → ℕ) (n : ℕ) (counts sums befores : List ℕ) : Type 0 where
-  pub counted : (k : ℕ) → k < n → slice_index counts k ≡ earlier f k
-  pub summed : (k : ℕ) → k < n → slice_index sums k ≡ total f k
-  pub before : (k : ℕ) → k < n → Previous f (f k) k (slice_index befores k)
+pub record Laid (f : ℕ → ℕ) (n : ℕ) (places : List Place) : Type 0 where
+  pub earlier : (k : ℕ) → k < n → (laid_for places k).earlier ≡ earlier f k
+  pub sum : (k : ℕ) → k < n → (laid_for places k).sum ≡ total f k
+  pub before : (k : ℕ) → k < n → Previous f (f k) k (laid_for places k).before
 
 -- no two orders share a byte, and each has its byte below the number of orders
 pub record PlacesApart (f : ℕ → ℕ) (n : ℕ) : Type 0 where

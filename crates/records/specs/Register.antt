@@ -53,14 +53,18 @@ module _ {K : Type 0} where
 
   module _ (t : Time K) where
     -- the lists of records as they are, each order's setting read at its place and each connection's at its own past 4,096
-    abbrev pub all_of : Memory K → Register K
-    all_of m = record {
-      tracks = m.tracks;
-      runs = m.runs;
-      connections = m.connections;
-      order = λ i j. slice_index m.settings (place (track_of_lem t m.runs) i j);
-      link = λ c. slice_index m.settings (4096 + c);
+    abbrev pub register_from : List (Track K) → List (Run K) → List (Connection K) → List ℕ → Register K
+    register_from tracks runs connections settings = record {
+      tracks = tracks;
+      runs = runs;
+      connections = connections;
+      order = λ i j. slice_index settings (place (track_of_lem t runs) i j);
+      link = λ c. slice_index settings (4096 + c);
     }
+
+    -- the same of a whole memory
+    abbrev pub all_of : Memory K → Register K
+    all_of m = register_from m.tracks m.runs m.connections m.settings
 
     -- the register that a memory stands for: what lies past the entered records does not count
     abbrev pub register_of : Memory K → Register K

@@ -6,7 +6,7 @@ use Rattle.records.specs.declared.Track.{Track}
 use Rattle.records.specs.declared.Connection.{Connection}
 use Rattle.records.specs.Records.{run_at, track_at, connection_at, track_of_lem}
 use Rattle.records.specs.Places.{total, Ordered}
-use Rattle.records.specs.Register.{Register, Memory, register_of}
+use Rattle.records.specs.Register.{Register, Memory, register_from, register_of}
 
 -- so many bytes from start on are 0 or 1
 pub record FlagsStored (settings : List ℕ) (start number : ℕ) : Type 0 where
@@ -73,6 +73,11 @@ module _ {K : Type 0} where
       pub connections : ConnectionsStored (length R.runs) R.connections
       pub orders : (i j : ℕ) → Ordered (track_of_lem t R.runs) (length R.runs) i j → R.order i j ≤ 1
       pub links : (c : ℕ) → c < length R.connections → R.link c ≤ 1
+
+    -- Lists of records that keep the limits with the bytes of their settings, of which there are 4,608.
+    pub record WithinLimits (tracks : List (Track K)) (runs : List (Run K)) (connections : List (Connection K)) (settings : List ℕ) : Type 0 where
+      pub limits : Limits (register_from t tracks runs connections settings)
+      pub bytes : length settings ≡ 4608
 
     -- The counts of a memory are within its limits, and so is the register that it stands for.
     pub record Stored (m : Memory K) : Type 0 where

@@ -2,19 +2,21 @@
 //! stored can stand.
 #![tactic(auto)]
 
-ghost use Rattle.std.specs.Prelude.{◌≡◌, ℕ, ◌<◌, ◌≤◌, length};
-ghost use Rattle.records.specs.Records.{run_at, track_at, connection_at};
-ghost use Rattle.records.specs.Register.{seen, front};
+ghost use Rattle.std.specs.Prelude.{◌≡◌, ℕ, ◌≤◌, length};
+ghost use Rattle.records.specs.Lent.{lists_in, lists_entered};
+ghost use Rattle.records.specs.Register.{seen};
 
 use kinds::Kind;
 
 mod lent;
 mod places;
 mod stored;
+mod within;
 
 pub use lent::{Records, RecordsMut};
-pub use places::{count_orders, lay_out};
+pub use places::{Place, count_orders};
 pub use stored::{check_drafted, check_shown, check_stored};
+pub use within::Entered;
 
 /// A single track: the headway between runs in one direction, what passes between opposite runs, and the penalty of a turned order.
 #[derive(Clone, Copy)]
@@ -63,45 +65,15 @@ pub struct View<'v, K> {
     pub connection_count: usize,
 }
 
-/// The track at place `i`.
-pub fn track_of<K: Kind>(tracks: &[Track<K>], i: usize) -> Track<K>
-    requires { i < length tracks.now }
-    ensures { result ≡ track_at K.Kind.time tracks.now i }
-{
-    tracks[i]
-}
-
-/// The run at place `i`.
-pub fn run_of<K: Kind>(runs: &[Run<K>], i: usize) -> Run<K>
-    requires { i < length runs.now }
-    ensures { result ≡ run_at K.Kind.time runs.now i }
-{
-    runs[i]
-}
-
-/// The connection at place `i`.
-pub fn connection_of<K: Kind>(connections: &[Connection<K>], i: usize) -> Connection<K>
-    requires { i < length connections.now }
-    ensures { result ≡ connection_at K.Kind.time connections.now i }
-{
-    connections[i]
-}
-
-/// The view of what is entered alone.
-pub fn entered<'v, K: Kind>(v: View<'v, K>) -> View<'v, K>
+/// What is entered of a view, and all of its settings.
+pub fn entered<'v, K: Kind>(v: View<'v, K>) -> Records<'v, K>
     requires { (v.track_count ≤ length v.tracks.now) × ((v.run_count ≤ length v.runs.now) × (v.connection_count ≤ length v.connections.now)) }
-    ensures { seen result ≡ front (seen v.entry) }
+    ensures { lists_in result ≡ lists_entered (seen v.entry) }
 {
-    let (tracks, _) = v.tracks.split_at(v.track_count);
-    let (runs, _) = v.runs.split_at(v.run_count);
-    let (connections, _) = v.connections.split_at(v.connection_count);
-    View {
-        tracks,
-        runs,
-        connections,
+    Records {
+        tracks: &v.tracks[..v.track_count],
+        runs: &v.runs[..v.run_count],
+        connections: &v.connections[..v.connection_count],
         settings: v.settings,
-        track_count: v.track_count,
-        run_count: v.run_count,
-        connection_count: v.connection_count,
     }
 }

@@ -3,37 +3,48 @@ ghost use Rattle.std.specs.Prelude.{◌≡◌, ℕ, ◌+◌, ◌<◌, ◌≤◌,
 ghost use Rattle.records.specs.Places.{total, Laid};
 ghost use Rattle.records.specs.Records.{track_of_lem, OnTracks};
 
-use crate::{Run, run_of};
+use crate::Run;
 use kinds::Kind;
 
-/// Lays out, for each run, how many earlier runs share its track, the sum of these counts over the runs before it, and one past the
-/// run before it on its track (0 if there is none). The setting of the order of `i` and `j` then lies at `sums[j] + counts[i]`.
-/// Answers the number of orders.
-pub fn lay_out<K: Kind>(
-    runs: &[Run<K>],
-    counts: &mut [u16],
-    sums: &mut [u32],
-    befores: &mut [u16],
-) -> u32
+/// What is laid out for a run: how many earlier runs are on its track, how many orders the runs before it have, and the nearest
+/// earlier run on its track, if there is one.
+#[derive(Clone, Copy)]
+pub struct Place {
+    pub earlier: u16,
+    pub sum: u32,
+    pub before: Option<u16>,
+}
+
+// How many of the runs so far are on a track, and the last of them.
+#[derive(Clone, Copy)]
+struct Tally {
+    count: u16,
+    last: Option<u16>,
+}
+
+// Lays out where the settings of the orders lie, and answers how many orders there are.
+pub(crate) fn lay_out<K: Kind>(runs: &[Run<K>], places: &mut [Place]) -> u32
     requires few { length runs.now ≤ 512 }
-    requires room { (length runs.now ≤ length counts.old) × ((length runs.now ≤ length sums.old) × (length runs.now ≤ length befores.old)) }
+    requires room { length runs.now ≤ length places.old }
     requires tracks { OnTracks K.Kind.time runs.now }
-    ensures laid { Laid (track_of_lem K.Kind.time runs.now) (length runs.now) counts.new sums.new befores.new }
+    ensures laid { Laid (track_of_lem K.Kind.time runs.now) (length runs.now) places.new }
     ensures orders { result ≡ total (track_of_lem K.Kind.time runs.now) (length runs.now) }
 {
-    let n = runs.len();
-    let mut tally = [0u16; 64];
-    let mut last = [0u16; 64];
-    let mut sum = 0u32;
-    for j in 0..n {
-        let track = run_of(runs, j).track as usize;
-        let count = tally[track];
-        counts[j] = count;
-        sums[j] = sum;
-        befores[j] = last[track];
-        sum += count as u32;
-        tally[track] = count + 1;
-        last[track] = j as u16 + 1;
+    let mut tallies = [Tally {
+        count: 0,
+        last: None,
+    }; 64];
+    let mut sum = 0;
+    for (j, run) in runs.iter().enumerate() {
+        let tally = &mut tallies[run.track as usize];
+        places[j] = Place {
+            earlier: tally.count,
+            sum,
+            before: tally.last,
+        };
+        sum += tally.count as u32;
+        tally.count += 1;
+        tally.last = Some(j as u16);
     }
     sum
 }
@@ -44,14 +55,12 @@ pub fn count_orders<K: Kind>(runs: &[Run<K>]) -> u32
     requires tracks { OnTracks K.Kind.time runs.now }
     ensures { result ≡ total (track_of_lem K.Kind.time runs.now) (length runs.now) }
 {
-    let n = runs.len();
-    let mut tally = [0u16; 64];
-    let mut sum = 0u32;
-    for j in 0..n {
-        let track = run_of(runs, j).track as usize;
-        let count = tally[track];
-        sum += count as u32;
-        tally[track] = count + 1;
+    let mut counts = [0u16; 64];
+    let mut sum = 0;
+    for run in runs {
+        let count = &mut counts[run.track as usize];
+        sum += *count as u32;
+        *count += 1;
     }
     sum
 }

@@ -1,10 +1,11 @@
 //! Whether what is stored can stand.
-ghost use Rattle.std.specs.Prelude.{◌≡◌, ℕ, ◌+◌, ◌*◌, ◌<◌, ◌≤◌, length, Decides};
-ghost use Rattle.records.specs.Register.{seen, all_of, register_of};
+ghost use Rattle.std.specs.Prelude.{◌≡◌, ℕ, ◌+◌, ◌≤◌, length, Decides, All, MatchOption};
+ghost use Rattle.records.specs.Entered.{register_in, TakenFrom};
+ghost use Rattle.records.specs.Register.{seen, register_from};
 ghost use Rattle.records.specs.Stored.{Limits, Duration, SizedIfAny, TrackStored, Scheduled, Linked, Reported, RunStored, ConnectionStored, TracksStored, RunsStored, ConnectionsStored, FlagsStored, Stored, Unused, Drafted, Shown};
 
 use crate::places::count_orders;
-use crate::{Connection, Run, Track, View, connection_of, entered, run_of, track_of};
+use crate::{Connection, Entered, Records, Run, Track, View, entered};
 use kinds::Kind;
 
 // Within its size, and not before nothing.
@@ -17,10 +18,7 @@ fn duration_fits<K: Kind>(d: K) -> bool
 fn sized_if_any<K: Kind>(time: Option<K>) -> bool
     ensures { Decides result (SizedIfAny K.Kind.time time) }
 {
-    match time {
-        None => true,
-        Some(x) => x.size() <= 1_000_000,
-    }
+    time.is_none_or(|x| x.size() <= 1_000_000)
 }
 
 fn track_stored<K: Kind>(track: Track<K>) -> bool
@@ -41,11 +39,10 @@ fn run_scheduled<K: Kind>(run: Run<K>) -> bool
 fn run_linked<K: Kind>(tracks: usize, i: usize, run: Run<K>) -> bool
     ensures { Decides result (Linked tracks i run) }
 {
-    let predecessor = match run.predecessor {
-        None => true,
-        Some(p) => (p as usize) < i,
-    };
-    predecessor && (run.track as usize) < tracks && run.weight <= 1_000 && run.direction <= 1
+    run.predecessor.is_none_or(|p| (p as usize) < i)
+        && (run.track as usize) < tracks
+        && run.weight <= 1_000
+        && run.direction <= 1
 }
 
 fn run_reported<K: Kind>(run: Run<K>) -> bool
@@ -78,21 +75,14 @@ fn connection_stored<K: Kind>(runs: usize, c: Connection<K>) -> bool
 fn tracks_stored<K: Kind>(tracks: &[Track<K>]) -> bool
     ensures { Decides result (TracksStored K.Kind.time tracks.now) }
 {
-    let n = tracks.len();
-    for i in 0..n {
-        if !track_stored(track_of(tracks, i)) {
-            return false;
-        }
-    }
-    true
+    tracks.iter().all(|track| track_stored(*track))
 }
 
 fn runs_stored<K: Kind>(tracks: usize, runs: &[Run<K>]) -> bool
     ensures { Decides result (RunsStored K.Kind.time tracks runs.now) }
 {
-    let n = runs.len();
-    for i in 0..n {
-        if !run_stored(tracks, i, run_of(runs, i)) {
+    for (r, run) in runs.iter().enumerate() {
+        if !run_stored(tracks, r, *run) {
             return false;
         }
     }
@@ -102,13 +92,7 @@ fn runs_stored<K: Kind>(tracks: usize, runs: &[Run<K>]) -> bool
 fn connections_stored<K: Kind>(runs: usize, connections: &[Connection<K>]) -> bool
     ensures { Decides result (ConnectionsStored K.Kind.time runs connections.now) }
 {
-    let n = connections.len();
-    for i in 0..n {
-        if !connection_stored(runs, connection_of(connections, i)) {
-            return false;
-        }
-    }
-    true
+    connections.iter().all(|c| connection_stored(runs, *c))
 }
 
 // Whether each of `count` bytes from `start` on is 0 or 1.
@@ -116,47 +100,43 @@ fn flags_stored(settings: &[u8], start: usize, count: usize) -> bool
     requires { start + count ≤ length settings.now }
     ensures { Decides result (FlagsStored settings.now start count) }
 {
-    for i in 0..count {
-        if settings[start + i] > 1 {
-            return false;
-        }
-    }
-    true
+    settings[start..start + count].iter().all(|flag| *flag <= 1)
 }
 
-// Whether the records of a view of what is entered keep the limits.
-fn limits_kept<K: Kind>(v: View<K>) -> bool
-    requires few { (length v.tracks.now ≤ 64) × ((length v.runs.now ≤ 512) × ((length v.connections.now ≤ 512) × (length v.settings.now ≡ 4608))) }
-    ensures { Decides result (Limits K.Kind.time (all_of K.Kind.time (seen v.entry))) }
+// Whether records keep the limits, with the bytes of their settings.
+fn limits_kept<K: Kind>(r: Records<'_, K>) -> bool
+    requires few { (length r.tracks.now ≤ 64) × ((length r.runs.now ≤ 512) × ((length r.connections.now ≤ 512) × (length r.settings.now ≡ 4608))) }
+    ensures { Decides result (Limits K.Kind.time (register_from K.Kind.time r.entry.tracks.now r.entry.runs.now r.entry.connections.now r.entry.settings.now)) }
 {
-    if !tracks_stored(v.tracks) {
+    if !tracks_stored(r.tracks) {
         return false;
     }
-    if !runs_stored(v.tracks.len(), v.runs) {
+    if !runs_stored(r.tracks.len(), r.runs) {
         return false;
     }
-    if !connections_stored(v.runs.len(), v.connections) {
+    if !connections_stored(r.runs.len(), r.connections) {
         return false;
     }
-    let orders = count_orders(v.runs) as usize;
+    let orders = count_orders(r.runs) as usize;
     if orders > 4_096 {
         return false;
     }
-    if !flags_stored(v.settings, 0, orders) {
-        return false;
-    }
-    flags_stored(v.settings, 4_096, v.connections.len())
+    flags_stored(r.settings, 0, orders) && flags_stored(r.settings, 4_096, r.connections.len())
 }
 
-/// Whether what is stored can stand: counts, records and settings are such as the calls take. What lies past the entered is free.
-pub fn check_stored<K: Kind>(v: View<K>) -> bool
+/// What is entered of a view that is stored: counts, records and settings are such as the calls take. What lies past the entered is
+/// free. None exactly if it is not stored.
+pub fn check_stored<'v, K: Kind>(v: View<'v, K>) -> Option<Entered<'v, K>>
     requires { (length v.tracks.now ≡ 64) × ((length v.runs.now ≡ 512) × ((length v.connections.now ≡ 512) × (length v.settings.now ≡ 4608))) }
-    ensures { Decides result (Stored K.Kind.time (seen v.entry)) }
+    ensures { MatchOption result (¬ (Stored K.Kind.time (seen v.entry))) (TakenFrom K.Kind.time (seen v.entry)) }
 {
     if v.track_count > 64 || v.run_count > 512 || v.connection_count > 512 {
-        return false;
+        return None;
     }
-    limits_kept(entered(v))
+    if !limits_kept(entered(v)) {
+        return None;
+    }
+    Some(Entered::of(v))
 }
 
 fn run_unused<K: Kind>(run: Run<K>) -> bool
@@ -165,18 +145,17 @@ fn run_unused<K: Kind>(run: Run<K>) -> bool
     run.departed.is_none() && run.arrived.is_none() && run.hold.is_none()
 }
 
-/// Whether no entered run is reported or held.
-pub fn check_drafted<K: Kind>(v: View<K>) -> bool
-    requires { v.run_count ≤ length v.runs.now }
-    ensures { Decides result (Drafted K.Kind.time (register_of K.Kind.time (seen v.entry))) }
+fn runs_unused<K: Kind>(runs: &[Run<K>]) -> bool
+    ensures { Decides result (All (λ run. Unused run) runs.now) }
 {
-    let count = v.run_count;
-    for i in 0..count {
-        if !run_unused(run_of(v.runs, i)) {
-            return false;
-        }
-    }
-    true
+    runs.iter().all(|run| run_unused(*run))
+}
+
+/// Whether no entered run is reported or held.
+pub fn check_drafted<K: Kind>(e: &Entered<'_, K>) -> bool
+    ensures { Decides result (Drafted K.Kind.time (register_in K.Kind.time e.now)) }
+{
+    runs_unused(e.runs)
 }
 
 /// Whether the times shown of the first `events` events are within the size that a reckoning can give.
@@ -184,10 +163,7 @@ pub fn check_shown<K: Kind>(shown: &[K], events: usize) -> bool
     requires { events ≤ length shown.now }
     ensures { Decides result (Shown K.Kind.time shown.now events) }
 {
-    for i in 0..events {
-        if shown[i].size() > 103_300_000 {
-            return false;
-        }
-    }
-    true
+    shown[..events]
+        .iter()
+        .all(|time| time.size() <= 103_300_000)
 }

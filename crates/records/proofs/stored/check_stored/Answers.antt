@@ -1,26 +1,21 @@
-use Rattle.std.proofs.Common.{length, sym, ap, ◌∙◌, subst, inl, inr, arith}
-use Rattle.std.proofs.lemmas.List.{length-take-le}
-use Rattle.std.proofs.lemmas.Bool.{false≢true}
-use Rattle.records.specs.Register.{Memory, all_of}
+use Rattle.std.proofs.Common.{sym, subst, arith}
+use Rattle.std.proofs.lemmas.Bool.{both_ways}
+use Rattle.records.specs.Lent.{Lists}
+use Rattle.records.specs.Register.{register_from}
 use Rattle.records.specs.Stored.{Limits}
 use Rattle.records.proofs.stored.check_stored.Goals as goal
 
-pub returns-then-v-gt64 : goal.returns-then-v-gt64
-returns-then-v-gt64 g c = ((λ e. absurd (false≢true e)), λ s. absurd (elim c.then-v-gt64.either [ inl h ↦ omega (arith, s.few_tracks) | inr (inl h) ↦ omega (arith, h.1, s.few_runs) | inr (inr h) ↦ omega (arith, h.1, s.few_connections) ]))
-
-pub limits_kept-requires : goal.limits_kept-requires
-limits_kept-requires g c =
-    let v = c.args.v in
-    let a = ap (λ (m : Memory g.row.K.Denot). length m.tracks) c.entered.ensures ∙ length-take-le v.track_count v.tracks.now (omega arith) in
-    let b = ap (λ (m : Memory g.row.K.Denot). length m.runs) c.entered.ensures ∙ length-take-le v.run_count v.runs.now (omega arith) in
-    let d = ap (λ (m : Memory g.row.K.Denot). length m.connections) c.entered.ensures ∙ length-take-le v.connection_count v.connections.now (omega arith) in
-    let e = ap (λ (m : Memory g.row.K.Denot). length m.settings) c.entered.ensures in
-    record { few = (omega arith, (omega arith, (omega arith, omega arith))) }
-
-pub returns : goal.returns
-returns g c =
+pub returns-then-not-limits_kept : goal.returns-then-not-limits_kept
+returns-then-not-limits_kept g c =
     let t = g.K.Kind.time in
-    let P : Memory g.row.K.Denot → Type 0 = λ m. Limits t (all_of t m) in (
-      (λ e. record { few_tracks = omega arith; few_runs = omega arith; few_connections = omega arith; limits = subst P c.entered.ensures (c.limits_kept.ensures.0 e) }),
-      λ s. c.limits_kept.ensures.1 (subst P (sym c.entered.ensures) s.limits),
-    )
+    let P : Lists g.row.K.Denot → Type 0 = λ x. Limits t (register_from t x.tracks x.runs x.connections x.settings) in
+    λ s. both_ways _ c.if-not-limits_kept.true (c.limits_kept.ensures.1 (subst P (sym c.entered.ensures) s.limits))
+
+pub of-requires : goal.of-requires
+of-requires g c =
+    let t = g.K.Kind.time in
+    let P : Lists g.row.K.Denot → Type 0 = λ x. Limits t (register_from t x.tracks x.runs x.connections x.settings) in
+    record {
+      stored = record { few_tracks = omega arith; few_runs = omega arith; few_connections = omega arith; limits = subst P c.entered.ensures (c.limits_kept.ensures.0 c.if-not-limits_kept.false) };
+      lengths = c.requires;
+    }

@@ -1,0 +1,16 @@
+use Rattle.std.proofs.Common.{arith}
+use Rattle.records.specs.Entered.{register_in}
+use Rattle.force.proofs.Answered.{times_told, ring_told}
+use Rattle.force.proofs.plan.reckon_over.Goals as goal
+
+pub returns-clause-times : goal.returns-clause-times
+returns-clause-times g c =
+    let t = g.K.Kind.time in
+    let e = c.args.e.now in
+    times_told t (register_in t e) e.limits.limits c.events.result c.fill_arcs-m.result c.fill_floors.new.floors c.fill_arcs-m.new.arcs c.events.ensures c.fill_arcs-m.ensures.few (omega arith) (omega arith) c.fill_floors.ensures c.fill_arcs-m.ensures.listed _ c.reckon.new.times c.reckon.result (omega arith) c.reckon.ensures.times
+
+pub returns-clause-ring : goal.returns-clause-ring
+returns-clause-ring g c =
+    let t = g.K.Kind.time in
+    let e = c.args.e.now in
+    ring_told t (register_in t e) e.limits.limits c.events.result c.fill_arcs-m.result c.fill_floors.new.floors c.fill_arcs-m.new.arcs c.events.ensures c.fill_arcs-m.ensures.few (omega arith) (omega arith) c.fill_floors.ensures c.fill_arcs-m.ensures.listed _ _ _ _ c.requires.written.0 c.requires.written.1 c.requires.work.tables c.requires.work.marks _ c.reckon.new.ring c.reckon.result c.reckon.ensures.answer c.reckon.ensures.exactly c.reckon.ensures.ring
