@@ -7,10 +7,10 @@ pub returns-clause-times : goal.returns-clause-times
 returns-clause-times g c =
     let t = g.K.Kind.time in
     let e = c.args.e.now in
-    times_told t (register_in t e) e.limits.limits c.events.result c.fill_arcs-m.result c.fill_floors.new.floors c.fill_arcs-m.new.arcs c.events.ensures c.fill_arcs-m.ensures.few (omega arith) (omega arith) c.fill_floors.ensures c.fill_arcs-m.ensures.listed _ c.reckon.new.times c.reckon.result (omega arith) c.reckon.ensures.times
+    times_told t (register_in t e) e.limits.limits c.events.result c.fill_arcs-arc_count.result c.fill_floors.new.floors c.fill_arcs-arc_count.new.arcs c.events.ensures c.fill_arcs-arc_count.ensures.few (omega arith) (omega arith) c.fill_floors.ensures c.fill_arcs-arc_count.ensures.listed _ c.reckon.new.times c.reckon.result (omega arith) c.reckon.ensures.times
 
 pub returns-clause-ring : goal.returns-clause-ring
 returns-clause-ring g c =
     let t = g.K.Kind.time in
     let e = c.args.e.now in
-    ring_told t (register_in t e) e.limits.limits c.events.result c.fill_arcs-m.result c.fill_floors.new.floors c.fill_arcs-m.new.arcs c.events.ensures c.fill_arcs-m.ensures.few (omega arith) (omega arith) c.fill_floors.ensures c.fill_arcs-m.ensures.listed _ _ _ _ c.requires.written.0 c.requires.written.1 c.requires.work.tables c.requires.work.marks _ c.reckon.new.ring c.reckon.result c.reckon.ensures.answer c.reckon.ensures.exactly c.reckon.ensures.ring
+    ring_told t (register_in t e) e.limits.limits c.events.result c.fill_arcs-arc_count.result c.fill_floors.new.floors c.fill_arcs-arc_count.new.arcs c.events.ensures c.fill_arcs-arc_count.ensures.few (omega arith) (omega arith) c.fill_floors.ensures c.fill_arcs-arc_count.ensures.listed _ _ _ _ c.requires.written.0 c.requires.written.1 c.requires.work.tables c.requires.work.marks _ c.reckon.new.ring c.reckon.result c.reckon.ensures.answer c.reckon.ensures.exactly c.reckon.ensures.ring
