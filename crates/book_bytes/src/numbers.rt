@@ -1,5 +1,4 @@
 //! Numbers out of bytes, the high byte first.
-ghost use Rattle.std.specs.Prelude.{◌^◌, ◌≤◌};
 ghost use Rattle.book_bytes.specs.Spelling.{ReadsTwo, ReadsFour, ReadsSigned};
 
 // Stays: three of one shape; a trait over the three types would be longer than they are.
