@@ -1,6 +1,7 @@
 //! Numbers out of bytes, the high byte first.
-ghost use Rattle.std.specs.Prelude.{◌^◌, ◌≤◌};
 ghost use Rattle.book_bytes.specs.Spelling.{ReadsTwo, ReadsFour, ReadsSigned};
+
+// Stays: three of one shape; a trait over the three types would be longer than they are.
 
 /// The number that two bytes spell, or none if there are not two.
 pub fn read_two(bytes: &[u8]) -> Option<u16>

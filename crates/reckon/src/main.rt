@@ -5,10 +5,10 @@ use anyhow::anyhow;
 use kinds::{Changes, Kind, Seconds};
 use network::{ARCS, Arc, EVENTS, Listing, MARKS, NetworkFault, TABLES, reckon};
 use std::alloc::Global;
+use std::env;
 use std::fmt::Display;
 use std::io::{BufRead, BufReader};
 use std::str::FromStr;
-use std::{env, io};
 
 mod text;
 
