@@ -14,11 +14,14 @@ mod text;
 
 use text::{Entry, LineFault, entry_of, line_of};
 
-// A network as it is read.
+// A network as it is read: the floors and the arcs up to the limits, and how many there were.
+// Stays: the counts tell more than the lists' lengths, since what is past a limit is counted and not kept.
 #[derive(Drop)]
 struct Sheet<K> {
     floors: Vec<K>,
+    events: usize,
     arcs: Vec<Arc<K>>,
+    arc_count: usize,
 }
 
 impl<K: Kind + Clone + Display + FromStr> Sheet<K>
@@ -28,15 +31,27 @@ where
     fn new(heap: Global) -> Self {
         Sheet {
             floors: Vec::new(heap),
+            events: 0,
             arcs: Vec::new(heap),
+            arc_count: 0,
         }
     }
 
     // Enters a line.
     fn enter(&mut self, line: &str) -> Result<(), LineFault> {
         match entry_of(line).ok_or(LineFault::Misread)? {
-            Entry::Event { floor } => self.floors.push(floor)?,
-            Entry::Arc(arc) => self.arcs.push(arc)?,
+            Entry::Event { floor } => {
+                if self.events < EVENTS {
+                    self.floors.push(floor)?;
+                }
+                self.events = self.events.saturating_add(1);
+            }
+            Entry::Arc(arc) => {
+                if self.arc_count < ARCS {
+                    self.arcs.push(arc)?;
+                }
+                self.arc_count = self.arc_count.saturating_add(1);
+            }
         }
         Ok(())
     }
@@ -45,8 +60,6 @@ where
     fn answer(mut self, rt: &HostRuntime) -> anyhow::Result<()> {
         let heap = rt.alloc();
         let none = K::nothing();
-        let events = self.floors.len();
-        let arc_count = self.arcs.len();
         self.floors.resize(EVENTS, none)?;
         self.arcs.resize(
             ARCS,
@@ -61,9 +74,9 @@ where
         let mut tables = vec![in heap; none; TABLES]?;
         let mut marks = vec![in heap; 0u16; MARKS]?;
         let listing = Listing {
-            events,
+            events: self.events,
             floors: self.floors.as_slice(),
-            arc_count,
+            arc_count: self.arc_count,
             arcs: self.arcs.as_slice(),
         };
         match reckon(
@@ -73,7 +86,7 @@ where
             tables.as_mut_slice(),
             marks.as_mut_slice(),
         ) {
-            Ok(()) => print_times(rt, events, times.as_slice()),
+            Ok(()) => print_times(rt, self.events, times.as_slice()),
             Err(fault) => print_fault(rt, fault, ring.as_slice()),
         }
     }
