@@ -1,4 +1,6 @@
-use Rattle.std.proofs.Common.{◌-◌, length, take, drop, refl, arith}
+use Rattle.std.proofs.Common.{◌-◌, length, take, drop, refl, arith, List, subst}
+use Rattle.network.specs.Network.{Least}
+use Rattle.network.specs.Reckoning.{at, network_of}
 use Rattle.network.proofs.Chains.{chain_known}
 use Rattle.network.proofs.Foremosts.{named, part_long}
 use Rattle.network.proofs.Solved.{settled_least, settled_no_ring, ring_no_table}
@@ -26,7 +28,8 @@ returns g c =
     elim c.match-settle.branch [
       | in-None w ↦
           (let s = w.in-None.ensures in
-          rw (w.times-is, w.ring-is, w.result-is, w.copy_from_slice.ensures.after) (settled_least laws _ _ limits _ s, settled_no_ring laws _ _ limits _ s, refl))
+          let P : List g.row.K.Denot → Type 0 = λ times. Least g.K.Kind.time (network_of g.K.Kind.time c.args.kept.now.floors.now c.args.kept.now.arcs.now) (at g.K.Kind.time times) in
+          rw w.result-is (subst P (cc (w.copy_from_slice.ensures.after)) (settled_least laws _ _ limits _ s), settled_no_ring laws _ _ limits _ s, cc))
       | in-Some w ↦
           (let r = w.trace-circuit.ensures in
           let high = r.1 in
