@@ -1,13 +1,13 @@
 //! The arcs in force, listed from the entered records. Each order costs one step.
 ghost use Rattle.std.specs.Prelude.{◌≡◌, ℕ, ◌+◌, ◌*◌, ◌<◌, ◌≤◌, length, IfSome};
 ghost use Rattle.records.specs.Entered.{register_in};
-ghost use Rattle.records.specs.Places.{total, earlier, Laid};
+ghost use Rattle.records.specs.Places.{total, earlier};
 ghost use Rattle.force.specs.Force.{Joins, InForce, track_in};
 ghost use Rattle.force.specs.Added.{Added, Listed, Among, OfRun, Follows, Turns, OrderOf, RunArcs, OrderArcs, ConnectionArcs, Keeps};
 
 use kinds::Kind;
 use network::Arc;
-use records::{Connection, Entered, Place, Run, Track};
+use records::{Connection, Entered, Layout, Place, Run, Track};
 
 // The arcs listed so far, at the front of a memory.
 #[derive(Drop)]
@@ -135,34 +135,30 @@ impl<K: Kind> ArcList<'_, K> {
     }
 
     // Adds what is in force for the orders of run `j` with earlier runs.
-    fn push_orders_of(&mut self, e: &Entered<'_, K>, places: &[Place], j: usize)
-        requires laid { Laid (track_in K.Kind.time (register_in K.Kind.time e.now)) (length e.now.runs.now) places.now × (length places.now ≡ 512) }
-        requires inside { j < length e.now.runs.now }
-        requires room { self.old.count + 2 * earlier (track_in K.Kind.time (register_in K.Kind.time e.now)) j ≤ length self.old.arcs.now }
-        ensures added { Added K.Kind.time (Among (OrderOf K.Kind.time (register_in K.Kind.time e.now) j) 0 j) self.old self.new }
-        ensures room { self.new.count ≤ self.old.count + 2 * earlier (track_in K.Kind.time (register_in K.Kind.time e.now)) j }
+    fn push_orders_of(&mut self, layout: &Layout<'_, '_, K>, j: usize)
+        requires inside { j < length layout.now.entered.now.runs.now }
+        requires room { self.old.count + 2 * earlier (track_in K.Kind.time (register_in K.Kind.time layout.now.entered.now)) j ≤ length self.old.arcs.now }
+        ensures added { Added K.Kind.time (Among (OrderOf K.Kind.time (register_in K.Kind.time layout.now.entered.now) j) 0 j) self.old self.new }
+        ensures room { self.new.count ≤ self.old.count + 2 * earlier (track_in K.Kind.time (register_in K.Kind.time layout.now.entered.now)) j }
     {
+        let e = layout.entered;
         let y = e.run(j);
         let track = e.track(y.track as usize);
-        let sum = places[j].sum as usize;
-        let mut next = places[j].before;
-        while let Some(p) = next {
-            let i = p as usize;
-            let setting = e.settings[sum + places[i].earlier as usize];
-            self.push_order(track, setting, i, e.run(i), j, y);
-            next = places[i].before;
+        let mut next = layout.before(j);
+        while let Some(i) = next {
+            self.push_order(track, layout.setting(i, j), i, e.run(i), j, y);
+            next = layout.before(i);
         }
     }
 
     // Adds what is in force for all orders.
-    fn push_orders(&mut self, e: &Entered<'_, K>, places: &[Place])
-        requires laid { Laid (track_in K.Kind.time (register_in K.Kind.time e.now)) (length e.now.runs.now) places.now × (length places.now ≡ 512) }
-        requires room { self.old.count + 2 * total (track_in K.Kind.time (register_in K.Kind.time e.now)) (length e.now.runs.now) ≤ length self.old.arcs.now }
-        ensures added { Added K.Kind.time (OrderArcs K.Kind.time (register_in K.Kind.time e.now) (length e.now.runs.now)) self.old self.new }
-        ensures room { self.new.count ≤ self.old.count + 2 * total (track_in K.Kind.time (register_in K.Kind.time e.now)) (length e.now.runs.now) }
+    fn push_orders(&mut self, layout: &Layout<'_, '_, K>)
+        requires room { self.old.count + 2 * total (track_in K.Kind.time (register_in K.Kind.time layout.now.entered.now)) (length layout.now.entered.now.runs.now) ≤ length self.old.arcs.now }
+        ensures added { Added K.Kind.time (OrderArcs K.Kind.time (register_in K.Kind.time layout.now.entered.now) (length layout.now.entered.now.runs.now)) self.old self.new }
+        ensures room { self.new.count ≤ self.old.count + 2 * total (track_in K.Kind.time (register_in K.Kind.time layout.now.entered.now)) (length layout.now.entered.now.runs.now) }
     {
-        for j in 0..e.runs.len() {
-            self.push_orders_of(e, places, j);
+        for j in 0..layout.entered.runs.len() {
+            self.push_orders_of(layout, j);
         }
     }
 }
@@ -177,6 +173,6 @@ pub fn fill_arcs<K: Kind>(e: &Entered<'_, K>, places: &mut [Place], arcs: &mut [
     let mut list = ArcList { arcs, count: 0 };
     list.push_runs(e);
     list.push_connections(e);
-    list.push_orders(e, places);
+    list.push_orders(&Layout { entered: e, places });
     list.count
 }

@@ -8,11 +8,13 @@ ghost use Rattle.records.specs.Register.{seen};
 
 use kinds::Kind;
 
+mod layout;
 mod lent;
 mod places;
 mod stored;
 mod within;
 
+pub use layout::Layout;
 pub use lent::{Records, RecordsMut};
 pub use places::{Place, count_orders};
 pub use stored::{check_drafted, check_shown, check_stored};

@@ -7,5 +7,5 @@ use Rattle.force.proofs.arcs.ArcList.push_orders.Given as goal
 
 abbrev pub invariant-loop-j : goal.invariant-loop-j
 invariant-loop-j g l =
-    Added g.K.Kind.time (OrderArcs g.K.Kind.time (register_in g.K.Kind.time l.e) l.j) l.initial.self l.self
-    × (l.self.count ≤ l.initial.self.count + 2 * total (track_in g.K.Kind.time (register_in g.K.Kind.time l.e)) l.j)
+    Added g.K.Kind.time (OrderArcs g.K.Kind.time (register_in g.K.Kind.time l.layout.entered.now) l.j) l.initial.self l.self
+    × (l.self.count ≤ l.initial.self.count + 2 * total (track_in g.K.Kind.time (register_in g.K.Kind.time l.layout.entered.now)) l.j)

@@ -9,8 +9,8 @@ use Rattle.force.proofs.arcs.ArcList.push_orders_of.Given as goal
 abbrev pub invariant-loop-next : goal.invariant-loop-next
 invariant-loop-next g l =
     let t = g.K.Kind.time in
-    let f = track_in t (register_in t l.e) in
-    Added t (Among (OrderOf t (register_in t l.e) l.j) (past l.next) l.j) l.initial.self l.self
+    let f = track_in t (register_in t l.layout.entered.now) in
+    Added t (Among (OrderOf t (register_in t l.layout.entered.now) l.j) (past l.next) l.j) l.initial.self l.self
     × (past l.next ≤ l.j)
     × OnTrack f l.j l.next
     × (l.self.count + 2 * count f (f l.j) (past l.next) ≤ l.initial.self.count + 2 * earlier f l.j)
