@@ -3,7 +3,7 @@ ghost use Rattle.std.specs.Prelude.{◌≡◌};
 ghost use Rattle.network.specs.Faults.{network_number, network_layer, network_place};
 
 /// The layer of the library that a fault speaks for.
-#[derive(Clone, Copy)]
+#[derive(Clone, Copy, Debug, PartialEq, Eq)]
 pub enum Layer {
     Network,
     Plan,
@@ -11,7 +11,7 @@ pub enum Layer {
 }
 
 /// Why a network was not reckoned.
-#[derive(Clone, Copy)]
+#[derive(Clone, Copy, Debug, PartialEq, Eq)]
 pub enum NetworkFault {
     /// A memory has another length than listed.
     Length,

@@ -121,6 +121,11 @@ module _ {K : Type 0} where
     setting_place R (switch.Order i j) = place (track_of_lem t R.runs) i j
     setting_place R (switch.Connection c) = 4096 + c
 
+    -- that place, which lies within the bytes of the settings
+    pub record PlaceOf (R : Register K) (s : Switch) (x : ℕ) : Type 0 where
+      pub is : x ≡ setting_place R s
+      pub inside : x < 4608
+
     -- the setting of a switch
     abbrev pub setting_of_lem : Register K → Switch → ℕ
     setting_of_lem R (switch.Order i j) = R.order i j
