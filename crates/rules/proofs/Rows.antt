@@ -1,5 +1,5 @@
 -- What is known once no row of a call applies.
-use Rattle.std.proofs.Common.{◌≡◌, ℕ, ◌*◌, ◌/◌, ◌%◌, ◌<◌, ◌≤◌, true, false, List, [], ◌∷◌, ◌++◌, length, get_or, IfSome, Some, None, Option, refl, inl, inr, arith, MatchOption}
+use Rattle.std.proofs.Common.{◌≡◌, ℕ, ◌*◌, ◌/◌, ◌%◌, ◌<◌, ◌≤◌, true, false, List, [], ◌∷◌, ◌++◌, length, IfSome, Some, None, Option, refl, inl, inr, arith, MatchOption}
 use Rattle.std.proofs.lemmas.Bool.{cases_eq, cases_lt, cases_Bool}
 use Rattle.kinds.specs.Time.{Time}
 use Rattle.network.specs.Refusals.{Row, row, Passed}
@@ -8,7 +8,7 @@ use Rattle.records.specs.declared.Run.{Run}
 use Rattle.records.specs.declared.Connection.{Connection}
 use Rattle.records.specs.Records.{run_at, track_of_lem}
 use Rattle.records.specs.Places.{Ordered}
-use Rattle.records.specs.Register.{Register, Memory, all_of}
+use Rattle.records.specs.Register.{Register}
 use Rattle.records.specs.Stored.{Sized, Duration, TrackStored, Linked, Scheduled, ConnectionStored, Limits}
 use Rattle.records.proofs.Counts.{place_below}
 use Rattle.rules.specs.declared.switches.Switch.{Switch}
@@ -36,14 +36,14 @@ still_given (Some x) n = tt
 
 -- what does not stand past n stands before it
 below : (n p : ℕ) → (n ≤ p → ⊥) → p < n
-below n p h = elim (cases_lt p n) [ inl l ↦ l | inr l ↦ absurd (h l) ]
+below n p h = omega arith
 
 at_most : (n p : ℕ) → (n < p → ⊥) → p ≤ n
-at_most n p h = elim (cases_lt n p) [ inl l ↦ absurd (h l) | inr l ↦ l ]
+at_most n p h = omega arith
 
 earlier : (n : ℕ) (o : Option ℕ) → (NotEarlier n o → ⊥) → IfSome o (λ p. p < n)
 earlier n None h = tt
-earlier n (Some p) h = below n p h
+earlier n (Some p) h = omega arith
 
 module _ {K : Type 0} (t : Time K) where
   duration : (d : K) → (NoDuration t d → ⊥) → Duration t d
@@ -85,12 +85,7 @@ module _ {K : Type 0} (t : Time K) where
   pub link_passed : (R : Register K) (c : ℕ) → Passed (switch_rows t R (switch.Connection c)) → c < length R.connections
   link_passed R c p = below (length R.connections) c p.0
 
-  -- the setting of a switch is the byte at its place
-  pub setting_read : (m : Memory K) (s : Switch) → setting_of_lem t (all_of t m) s ≡ get_or m.settings (setting_place t (all_of t m) s) 0
-  setting_read m (switch.Order i j) = refl
-  setting_read m (switch.Connection c) = refl
-
-  -- that place is inside
+  -- the place of a switch's setting is inside
   pub setting_inside : (R : Register K) (s : Switch) → Limits t R → Passed (switch_rows t R s) → setting_place t R s < 4608
   setting_inside R (switch.Order i j) l p = let h = place_below (track_of_lem t R.runs) (length R.runs) i j (order_passed R i j p) in omega (arith, l.few_orders)
   setting_inside R (switch.Connection c) l p = let h = link_passed R c p in omega (arith, l.few_connections)

@@ -13,9 +13,6 @@ returns-then-not-records_listed-clause-rows g c =
 pub check_stored-requires : goal.check_stored-requires
 check_stored-requires g c = let h = c.records_listed.ensures.0 c.if-not-records_listed.false in (h.tracks, (h.runs, (h.connections, h.settings)))
 
-pub returns-in_default-clause-rows : goal.returns-in_default-clause-rows
-returns-in_default-clause-rows g c = inr ((λ n. n (c.records_listed.ensures.0 c.if-not-records_listed.false)), inr ((λ n. n c.if-shown-ne-SHOWN.false), inl (c.in_default.ensures, refl, refl)))
-
 pub returns-then-not-check_shown-clause-rows : goal.returns-then-not-check_shown-clause-rows
 returns-then-not-check_shown-clause-rows g c =
     let taken = c.in-Some.ensures in
