@@ -1,8 +1,8 @@
 -- What is known once no row of a call applies.
 use Rattle.std.proofs.Common.{◌≡◌, ℕ, ◌*◌, ◌/◌, ◌%◌, ◌<◌, ◌≤◌, true, false, List, [], ◌∷◌, ◌++◌, length, ◌≢◌, IfSome, Some, None, Option, refl, inl, inr, arith, MatchOption}
-use Rattle.std.proofs.lemmas.Bool.{cases_eq, cases_lt, cases_Bool}
+use Rattle.std.proofs.lemmas.Bool.{cases_eq, cases_Bool}
 use Rattle.kinds.specs.Time.{Time}
-use Rattle.network.specs.Refusals.{Row, row, Passed}
+use Rattle.network.specs.Refusals.{Row, Passed}
 use Rattle.records.specs.declared.Track.{Track}
 use Rattle.records.specs.declared.Run.{Run}
 use Rattle.records.specs.declared.Connection.{Connection}
@@ -13,7 +13,7 @@ use Rattle.records.specs.Stored.{Sized, Duration, TrackStored, Linked, Scheduled
 use Rattle.records.proofs.Counts.{place_below}
 use Rattle.rules.specs.declared.switches.Switch.{Switch}
 use Rattle.rules.specs.declared.switches.Switch.TheVariants as switch
-use Rattle.rules.specs.Rows.{Given, NotEarlier, NoDuration, TooLate, track_rows, orders_with, run_rows, connection_rows, switch_rows, setting_place, setting_of_lem, setting_rows, turning_rows, event_rows, report_rows, hold_rows, release_rows}
+use Rattle.rules.specs.Rows.{Given, NotEarlier, NoDuration, track_rows, orders_with, run_rows, connection_rows, switch_rows, setting_place, setting_rows, turning_rows, event_rows, report_rows, hold_rows, release_rows}
 
 -- of more rows that do not apply the first do not
 pub passed_front : (xs ys : List Row) → Passed (xs ++ ys) → Passed xs

@@ -1,29 +1,12 @@
 //! What a call on an event, a report or a hold refuses.
-ghost use Rattle.std.specs.Prelude.{◌%◌, ◌<◌, length, Decides};
+ghost use Rattle.std.specs.Prelude.{◌%◌, Decides};
 ghost use Rattle.records.specs.Entered.{register_in};
-ghost use Rattle.records.specs.Records.{run_at};
 ghost use Rattle.rules.specs.Faults.{PlanAnswers};
-ghost use Rattle.rules.specs.Rows.{Given, Departed, event_rows, Untimely, report_rows, hold_rows, release_rows};
+ghost use Rattle.rules.specs.Rows.{event_rows, Untimely, report_rows, hold_rows, release_rows};
 
 use crate::{PlanFault, over};
 use kinds::Kind;
 use records::{Entered, Run};
-
-// Whether the departure of a run is reported.
-pub(crate) fn departed<K: Kind>(e: &Entered<'_, K>, run: u16) -> bool
-    requires { run < length e.now.runs.now }
-    ensures { Decides result (Departed K.Kind.time (register_in K.Kind.time e.now) run) }
-{
-    e.run(run as usize).departed.is_some()
-}
-
-// Whether a run is held.
-fn held<K: Kind>(e: &Entered<'_, K>, run: u16) -> bool
-    requires { run < length e.now.runs.now }
-    ensures { Decides result (Given (run_at K.Kind.time e.now.runs.now run).hold) }
-{
-    e.run(run as usize).hold.is_some()
-}
 
 /// What naming an event refuses.
 pub fn check_event<K: Kind>(e: &Entered<'_, K>, event: u16) -> Result<(), PlanFault>
@@ -70,10 +53,10 @@ pub fn check_hold<K: Kind>(e: &Entered<'_, K>, run: u16, until: K) -> Result<(),
     if over(until) {
         return Err(PlanFault::Time);
     }
-    if held(e, run) {
+    if e.run(run as usize).hold.is_some() {
         return Err(PlanFault::Already);
     }
-    if departed(e, run) {
+    if e.run(run as usize).departed.is_some() {
         return Err(PlanFault::Departed);
     }
     Ok(())
@@ -88,7 +71,8 @@ pub fn check_release<K: Kind>(
 ) -> Result<(), PlanFault>
     ensures { PlanAnswers (release_rows K.Kind.time (register_in K.Kind.time e.now) plan slip_plan slip_run) result }
 {
-    if slip_plan != plan || slip_run as usize >= e.runs.len() || !held(e, slip_run) {
+    let run = slip_run as usize;
+    if slip_plan != plan || run >= e.runs.len() || e.run(run).hold.is_none() {
         return Err(PlanFault::Slip);
     }
     Ok(())

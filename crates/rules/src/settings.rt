@@ -9,7 +9,6 @@ ghost use Rattle.rules.specs.Rows.{switch_rows, setting_place, setting_of_lem, s
 ghost use Rattle.rules.specs.declared.switches.Switch.TheVariants as named;
 
 use crate::entries::count_on;
-use crate::reports::departed;
 use crate::{PlanFault, Switch};
 use kinds::Kind;
 use records::{Entered, ORDERS, count_orders};
@@ -87,8 +86,13 @@ fn too_late<K: Kind>(e: &Entered<'_, K>, switch: Switch) -> bool
     ensures { Decides result (TooLate K.Kind.time (register_in K.Kind.time e.now) switch) }
 {
     match switch {
-        Switch::Order { i, j } => departed(e, i) || departed(e, j),
-        Switch::Connection { c } => departed(e, e.connection(c as usize).onward),
+        Switch::Order { i, j } => {
+            e.run(i as usize).departed.is_some() || e.run(j as usize).departed.is_some()
+        }
+        Switch::Connection { c } => {
+            let onward = e.connection(c as usize).onward;
+            e.run(onward as usize).departed.is_some()
+        }
     }
 }
 

@@ -2,7 +2,7 @@ use Rattle.std.proofs.Common.{◌≡◌, ℕ, ◌+◌, ◌<◌, ◌≤◌, List,
 use Rattle.std.proofs.lemmas.List.{length-take-le, get_or-take}
 use Rattle.kinds.specs.Time.{Time}
 use Rattle.records.specs.declared.Run.{Run}
-use Rattle.records.specs.Records.{run_at, track_of_lem}
+use Rattle.records.specs.Records.{track_of_lem}
 use Rattle.records.specs.Places.{count, total, place}
 use Rattle.records.proofs.Counts.{count_kept, total_kept, place_below}
 use Rattle.rules.proofs.settings.order_place.Given.{Over}
