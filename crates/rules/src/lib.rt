@@ -42,7 +42,7 @@ fn records_listed<K: Kind>(v: View<'_, K>) -> bool
 pub fn check_draft<'v, K: Kind>(v: View<'v, K>) -> Result<Entered<'v, K>, PlanFault>
     ensures rows { PlanAnswers (draft_rows K.Kind.time (seen v.entry)) result }
     ensures sound { OnOk result (SoundDraft K.Kind.time (seen v.entry)) }
-    ensures taken { IfOk result (λ e. TakenFrom K.Kind.time (seen v.entry) e) }
+    ensures taken { IfOk result (TakenFrom K.Kind.time (seen v.entry)) }
 {
     if !records_listed(v) {
         return Err(PlanFault::Length);
@@ -60,7 +60,7 @@ pub fn check_draft<'v, K: Kind>(v: View<'v, K>) -> Result<Entered<'v, K>, PlanFa
 pub fn check_open<'v, K: Kind>(v: View<'v, K>, shown: &[K]) -> Result<Entered<'v, K>, PlanFault>
     ensures rows { PlanAnswers (open_rows K.Kind.time (seen v.entry) shown.now) result }
     ensures sound { OnOk result (SoundOpen K.Kind.time (seen v.entry) shown.now) }
-    ensures taken { IfOk result (λ e. TakenFrom K.Kind.time (seen v.entry) e) }
+    ensures taken { IfOk result (TakenFrom K.Kind.time (seen v.entry)) }
 {
     if !records_listed(v) || shown.len() != SHOWN {
         return Err(PlanFault::Length);

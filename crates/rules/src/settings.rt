@@ -36,7 +36,7 @@ fn order_place<K: Kind>(e: &Entered<'_, K>, i: usize, j: usize) -> usize
 /// What naming an order or a connection refuses. Taken, the place of the byte of its setting.
 pub fn check_switch<K: Kind>(e: &Entered<'_, K>, switch: Switch) -> Result<usize, PlanFault>
     ensures rows { PlanAnswers (switch_rows K.Kind.time (register_in K.Kind.time e.now) switch) result }
-    ensures place { IfOk result (λ x. PlaceOf K.Kind.time (register_in K.Kind.time e.now) switch x) }
+    ensures place { IfOk result (PlaceOf K.Kind.time (register_in K.Kind.time e.now) switch) }
 {
     match switch {
         Switch::Order { i, j } => {
@@ -68,7 +68,7 @@ pub fn check_setting<K: Kind>(
     setting: u8,
 ) -> Result<usize, PlanFault>
     ensures rows { PlanAnswers (setting_rows K.Kind.time (register_in K.Kind.time e.now) switch setting) result }
-    ensures place { IfOk result (λ x. PlaceOf K.Kind.time (register_in K.Kind.time e.now) switch x) }
+    ensures place { IfOk result (PlaceOf K.Kind.time (register_in K.Kind.time e.now) switch) }
 {
     let place = check_switch(e, switch)?;
     if setting > 1 {
@@ -103,7 +103,7 @@ pub fn check_turning<K: Kind>(
     setting: u8,
 ) -> Result<usize, PlanFault>
     ensures rows { PlanAnswers (turning_rows K.Kind.time (register_in K.Kind.time e.now) switch setting) result }
-    ensures place { IfOk result (λ x. PlaceOf K.Kind.time (register_in K.Kind.time e.now) switch x) }
+    ensures place { IfOk result (PlaceOf K.Kind.time (register_in K.Kind.time e.now) switch) }
 {
     let place = check_setting(e, switch, setting)?;
     if too_late(e, switch) {
