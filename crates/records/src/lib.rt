@@ -17,8 +17,35 @@ mod within;
 pub use layout::Layout;
 pub use lent::{Records, RecordsMut};
 pub use places::{Place, count_orders};
-pub use stored::{check_drafted, check_shown, check_stored};
+pub use stored::{check_drafted, check_shown, check_stored, duration_fits};
 pub use within::Entered;
+
+/// The most tracks, and the length of their memory.
+pub const TRACKS: usize = 64;
+
+/// The most runs, and the length of their memory.
+pub const RUNS: usize = 512;
+
+/// The most connections, and the length of their memory.
+pub const CONNECTIONS: usize = 512;
+
+/// The most orders, and the number of their bytes, which the bytes of the connections follow.
+pub const ORDERS: usize = 4_096;
+
+/// The greatest size of a time.
+pub const TIME_SIZE: u32 = 1_000_000;
+
+/// The greatest size of a time shown.
+pub const SHOWN_SIZE: u32 = 103_300_000;
+
+/// The greatest size of a duration.
+pub const DURATION_SIZE: u32 = 100_000;
+
+/// The greatest penalty of a track or a connection.
+pub const PENALTY: u32 = 1_000_000;
+
+/// The greatest weight of a run.
+pub const WEIGHT: u16 = 1_000;
 
 /// A single track: the headway between runs in one direction, what passes between opposite runs, and the penalty of a turned order.
 #[derive(Clone, Copy)]

@@ -5,33 +5,36 @@ ghost use Rattle.records.specs.Register.{seen, register_from};
 ghost use Rattle.records.specs.Stored.{Limits, Duration, SizedIfAny, TrackStored, Scheduled, Linked, Reported, RunStored, ConnectionStored, TracksStored, RunsStored, ConnectionsStored, FlagsStored, Stored, Unused, Drafted, Shown};
 
 use crate::places::count_orders;
-use crate::{Connection, Entered, Records, Run, Track, View, entered};
+use crate::{
+    CONNECTIONS, Connection, DURATION_SIZE, Entered, ORDERS, PENALTY, RUNS, Records, Run,
+    SHOWN_SIZE, TIME_SIZE, TRACKS, Track, View, WEIGHT, entered,
+};
 use kinds::Kind;
 
-// Within its size, and not before nothing.
-fn duration_fits<K: Kind>(d: K) -> bool
+/// Whether a duration is within its size, and not before nothing.
+pub fn duration_fits<K: Kind>(d: K) -> bool
     ensures { Decides result (Duration K.Kind.time d) }
 {
-    d.size() <= 100_000 && K::nothing().compare(d)
+    d.size() <= DURATION_SIZE && K::nothing().compare(d)
 }
 
 fn sized_if_any<K: Kind>(time: Option<K>) -> bool
     ensures { Decides result (SizedIfAny K.Kind.time time) }
 {
-    time.is_none_or(|x| x.size() <= 1_000_000)
+    time.is_none_or(|x| x.size() <= TIME_SIZE)
 }
 
 fn track_stored<K: Kind>(track: Track<K>) -> bool
     ensures { Decides result (TrackStored K.Kind.time track) }
 {
-    duration_fits(track.headway) && duration_fits(track.meeting) && track.penalty <= 1_000_000
+    duration_fits(track.headway) && duration_fits(track.meeting) && track.penalty <= PENALTY
 }
 
 fn run_scheduled<K: Kind>(run: Run<K>) -> bool
     ensures { Decides result (Scheduled K.Kind.time run) }
 {
-    run.departure.size() <= 1_000_000
-        && run.arrival.size() <= 1_000_000
+    run.departure.size() <= TIME_SIZE
+        && run.arrival.size() <= TIME_SIZE
         && duration_fits(run.running)
         && duration_fits(run.dwell)
 }
@@ -41,7 +44,7 @@ fn run_linked<K: Kind>(tracks: usize, i: usize, run: Run<K>) -> bool
 {
     run.predecessor.is_none_or(|p| (p as usize) < i)
         && (run.track as usize) < tracks
-        && run.weight <= 1_000
+        && run.weight <= WEIGHT
         && run.direction <= 1
 }
 
@@ -68,7 +71,7 @@ fn connection_stored<K: Kind>(runs: usize, c: Connection<K>) -> bool
     (c.feeder as usize) < runs
         && (c.onward as usize) < runs
         && c.feeder != c.onward
-        && c.penalty <= 1_000_000
+        && c.penalty <= PENALTY
         && duration_fits(c.time)
 }
 
@@ -118,10 +121,10 @@ fn limits_kept<K: Kind>(r: Records<'_, K>) -> bool
         return false;
     }
     let orders = count_orders(r.runs) as usize;
-    if orders > 4_096 {
+    if orders > ORDERS {
         return false;
     }
-    flags_stored(r.settings, 0, orders) && flags_stored(r.settings, 4_096, r.connections.len())
+    flags_stored(r.settings, 0, orders) && flags_stored(r.settings, ORDERS, r.connections.len())
 }
 
 /// What is entered of a view that is stored: counts, records and settings are such as the calls take. What lies past the entered is
@@ -130,7 +133,7 @@ pub fn check_stored<'v, K: Kind>(v: View<'v, K>) -> Option<Entered<'v, K>>
     requires { (length v.tracks.now ≡ 64) × ((length v.runs.now ≡ 512) × ((length v.connections.now ≡ 512) × (length v.settings.now ≡ 4608))) }
     ensures { MatchOption result (¬ (Stored K.Kind.time (seen v.entry))) (TakenFrom K.Kind.time (seen v.entry)) }
 {
-    if v.track_count > 64 || v.run_count > 512 || v.connection_count > 512 {
+    if v.track_count > TRACKS || v.run_count > RUNS || v.connection_count > CONNECTIONS {
         return None;
     }
     if !limits_kept(entered(v)) {
@@ -163,7 +166,5 @@ pub fn check_shown<K: Kind>(shown: &[K], events: usize) -> bool
     requires { events ≤ length shown.now }
     ensures { Decides result (Shown K.Kind.time shown.now events) }
 {
-    shown[..events]
-        .iter()
-        .all(|time| time.size() <= 103_300_000)
+    shown[..events].iter().all(|time| time.size() <= SHOWN_SIZE)
 }

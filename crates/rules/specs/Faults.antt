@@ -1,8 +1,9 @@
 -- The number, the layer and the place that a fault of a plan tells. Assumes nothing.
-use Rattle.std.specs.Prelude.{ℕ}
+use Rattle.std.specs.Prelude.{ℕ, List, Result}
 use Rattle.network.specs.declared.faults.Layer.{Layer}
 use Rattle.network.specs.declared.faults.Layer.TheVariants as layer
 use Rattle.network.specs.Faults.{network_number}
+use Rattle.network.specs.Refusals.{Row, Answers}
 use Rattle.rules.specs.declared.faults.PlanFault.{PlanFault}
 use Rattle.rules.specs.declared.faults.PlanFault.TheVariants as fault
 
@@ -26,15 +27,9 @@ plan_layer f = layer.Plan
 
 -- of a 3 the number that names nothing
 abbrev pub plan_place : PlanFault → ℕ
-plan_place fault.Length = 0
-plan_place fault.Stored = 0
 plan_place (fault.Unknown place) = place
-plan_place fault.Time = 0
-plan_place fault.Duration = 0
-plan_place fault.Count = 0
-plan_place fault.Range = 0
-plan_place fault.Already = 0
-plan_place fault.Departed = 0
-plan_place fault.Report = 0
-plan_place fault.Slip = 0
-plan_place (fault.Network f) = 0
+plan_place _ = 0
+
+-- taken: no row applies; refused: the fault tells the number and the place of the first row that applies
+abbrev pub PlanAnswers : {X : Type 0} → List Row → Result X PlanFault → Type 0
+PlanAnswers rows result = Answers plan_number plan_place rows result

@@ -1,6 +1,6 @@
 -- The refusals of each call on a plan, before the reckoning: which rows it has, by rising number, and when each applies.
 -- Assumes nothing.
-use Rattle.std.specs.Prelude.{◌≡◌, ℕ, ◌+◌, ◌*◌, ◌/◌, ◌%◌, ◌<◌, ◌≤◌, false, ◌⊎◌, List, [], ◌∷◌, ◌++◌, length, IfSome, Some, None, Option, ◌≢◌}
+use Rattle.std.specs.Prelude.{◌≡◌, ℕ, ◌+◌, ◌*◌, ◌/◌, ◌%◌, ◌<◌, ◌≤◌, false, ◌⊎◌, List, [], ◌∷◌, ◌++◌, length, IfSome, MatchOption, Some, None, Option, unwrap_or, ◌≢◌}
 use Rattle.kinds.specs.Time.{Time}
 use Rattle.network.specs.Refusals.{Row, row}
 use Rattle.records.specs.declared.Track.{Track}
@@ -18,15 +18,9 @@ abbrev pub Given : {X : Type 0} → Option X → Type 0
 Given None = ⊥
 Given (Some x) = Unit {0}
 
--- the number, and 0 for none
-abbrev pub number_or_none_lem : Option ℕ → ℕ
-number_or_none_lem None = 0
-number_or_none_lem (Some p) = p
-
 -- a number that is not below n, where there is one
 abbrev pub NotEarlier : ℕ → Option ℕ → Type 0
-NotEarlier n None = ⊥
-NotEarlier n (Some p) = n ≤ p
+NotEarlier n o = MatchOption o ⊥ (λ p. n ≤ p)
 
 module _ {K : Type 0} where
   -- the memories of records and settings have their lengths
@@ -89,7 +83,7 @@ module _ {K : Type 0} where
     abbrev pub run_rows : Register K → Run K → List Row
     run_rows R x =
         row 3 x.track (length R.tracks ≤ x.track)
-        ∷ row 3 (number_or_none_lem x.predecessor) (NotEarlier (length R.runs) x.predecessor)
+        ∷ row 3 (unwrap_or x.predecessor 0) (NotEarlier (length R.runs) x.predecessor)
         ∷ row 4 0 (Over x.departure ⊎ Over x.arrival)
         ∷ row 5 0 (NoDuration x.running ⊎ NoDuration x.dwell)
         ∷ row 6 0 ((512 ≤ length R.runs) ⊎ (4096 < orders_with R x.track))
@@ -120,6 +114,11 @@ module _ {K : Type 0} where
     abbrev pub setting_place : Register K → Switch → ℕ
     setting_place R (switch.Order i j) = place (track_of_lem t R.runs) i j
     setting_place R (switch.Connection c) = 4096 + c
+
+    -- that place, which lies within the bytes of the settings
+    pub record PlaceOf (R : Register K) (s : Switch) (x : ℕ) : Type 0 where
+      pub is : x ≡ setting_place R s
+      pub inside : x < 4608
 
     -- the setting of a switch
     abbrev pub setting_of_lem : Register K → Switch → ℕ

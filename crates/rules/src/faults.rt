@@ -6,7 +6,7 @@ ghost use Rattle.rules.specs.declared.faults.PlanFault.TheVariants.{Network};
 use network::{Layer, NetworkFault};
 
 /// Why a call on a plan was not taken.
-#[derive(Clone, Copy)]
+#[derive(Clone, Copy, Debug, PartialEq, Eq)]
 pub enum PlanFault {
     /// A memory has another length than listed.
     Length,
@@ -37,7 +37,7 @@ pub enum PlanFault {
 impl From<NetworkFault> for PlanFault {
     ghost from_gives = { λ e r. r ≡ Network e };
 
-    fn from(fault: NetworkFault) -> PlanFault {
+    fn from(fault: NetworkFault) -> Self {
         PlanFault::Network(fault)
     }
 }
@@ -50,7 +50,7 @@ impl PlanFault {
         match self {
             PlanFault::Length => 1,
             PlanFault::Stored => 2,
-            PlanFault::Unknown { place: _ } => 3,
+            PlanFault::Unknown { .. } => 3,
             PlanFault::Time => 4,
             PlanFault::Duration => 5,
             PlanFault::Count => 6,

@@ -1,23 +1,25 @@
-use Rattle.std.proofs.Common.{refl, inl, inr, arith}
-use Rattle.rules.proofs.Decisions.{unless, holds}
+use Rattle.std.proofs.Common.{refl, inl, inr}
+use Rattle.records.specs.Stored.{Drafted}
+use Rattle.rules.proofs.Decisions.{unless, decides_at}
 use Rattle.rules.proofs.check_draft.Goals as goal
-
-pub returns-then-not-records_listed : goal.returns-then-not-records_listed
-returns-then-not-records_listed g c = record { rows = inl (unless c.records_listed.ensures c.if-not-records_listed.true, refl, refl); sound = tt }
-
-pub returns-then-not-check_stored : goal.returns-then-not-check_stored
-returns-then-not-check_stored g c = record { rows = inr (holds c.records_listed.ensures c.if-not-records_listed.false, inl (unless c.check_stored.ensures c.if-not-check_stored.true, refl, refl)); sound = tt }
-
-pub returns-then-not-check_drafted : goal.returns-then-not-check_drafted
-returns-then-not-check_drafted g c = record { rows = inr (holds c.records_listed.ensures c.if-not-records_listed.false, inr (holds c.check_stored.ensures c.if-not-check_stored.false, inl (unless c.check_drafted.ensures c.if-not-check_drafted.true, refl, refl))); sound = tt }
-
-pub returns : goal.returns
-returns g c = record { rows = (holds c.records_listed.ensures c.if-not-records_listed.false, (holds c.check_stored.ensures c.if-not-check_stored.false, (holds c.check_drafted.ensures c.if-not-check_drafted.false, tt))); sound = record { listed = c.records_listed.ensures.0 c.if-not-records_listed.false; stored = c.check_stored.ensures.0 c.if-not-check_stored.false; drafted = c.check_drafted.ensures.0 c.if-not-check_drafted.false } }
 
 pub check_stored-requires : goal.check_stored-requires
 check_stored-requires g c = let h = c.records_listed.ensures.0 c.if-not-records_listed.false in (h.tracks, (h.runs, (h.connections, h.settings)))
 
-pub check_drafted-requires : goal.check_drafted-requires
-check_drafted-requires g c =
-    let h = c.records_listed.ensures.0 c.if-not-records_listed.false in
-    let s = c.check_stored.ensures.0 c.if-not-check_stored.false in omega (arith, h.runs, s.few_runs)
+pub returns-in_default-clause-rows : goal.returns-in_default-clause-rows
+returns-in_default-clause-rows g c = inr ((λ n. n (c.records_listed.ensures.0 c.if-not-records_listed.false)), inl (c.in_default.ensures, refl, refl))
+
+pub returns-then-not-check_drafted-clause-rows : goal.returns-then-not-check_drafted-clause-rows
+returns-then-not-check_drafted-clause-rows g c =
+    let taken = c.in-Some.ensures in
+    let d = decides_at (Drafted g.K.Kind.time) taken.register c.check_drafted.ensures in
+    inr ((λ n. n (c.records_listed.ensures.0 c.if-not-records_listed.false)), inr ((λ n. n taken.stored), inl (unless d c.if-not-check_drafted.true, refl, refl)))
+
+pub returns-clause-sound : goal.returns-clause-sound
+returns-clause-sound g c =
+    let taken = c.in-Some.ensures in
+    let d = decides_at (Drafted g.K.Kind.time) taken.register c.check_drafted.ensures in
+    record { listed = c.records_listed.ensures.0 c.if-not-records_listed.false; stored = taken.stored; drafted = d.0 c.if-not-check_drafted.false }
+
+pub returns-clause-rows : goal.returns-clause-rows
+returns-clause-rows g c = let s = returns-clause-sound g c in ((λ n. n s.listed), ((λ n. n s.stored), ((λ n. n s.drafted), tt)))
