@@ -7,7 +7,7 @@ use network::Layer;
 use rules::PlanFault;
 
 /// Why a book was not read or written.
-#[derive(Clone, Copy)]
+#[derive(Clone, Copy, Debug, PartialEq, Eq)]
 pub enum BookFault {
     /// A memory has another length than listed.
     Length,
@@ -26,7 +26,7 @@ pub enum BookFault {
 }
 
 /// A fault of a plan, and where the field stands that was entered.
-#[derive(Clone, Copy)]
+#[derive(Clone, Copy, Debug, PartialEq, Eq)]
 pub struct Placed {
     pub fault: PlanFault,
     pub place: usize,
