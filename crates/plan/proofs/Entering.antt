@@ -15,6 +15,7 @@ use Rattle.rules.specs.declared.faults.PlanFault.{PlanFault}
 use Rattle.rules.specs.declared.switches.Switch.{Switch}
 use Rattle.rules.specs.Faults.{plan_number, plan_place}
 use Rattle.rules.specs.Rows.{SoundDraft, track_rows, run_rows, connection_rows, switch_rows, setting_rows, orders_with}
+use Rattle.plan.specs.Steps.{orders_entered, orders_added}
 use Rattle.rules.proofs.Rows.{track_passed, run_passed, connection_passed, setting_named}
 
 -- no more records are entered than there are
@@ -95,6 +96,9 @@ module _ {K : Type 0} (t : Time K) where
           let c : count g (g n) n ≡ count g x.track n = ap (λ (y : ℕ). count g y n) track_new in
           let d = count_kept g f x.track n same in omega arith
 
-      -- the orders before the run, and with those that it brings
-      pub orders_parts : (first all : ℕ) (runs : List (Run K)) → first ≡ total (track_of_lem t m.runs) m.run_count → runs ≡ set m.runs m.run_count x → all ≡ total (track_of_lem t runs) (m.run_count + 1) → (first ≡ total (track_of_lem t (take m.run_count m.runs)) m.run_count) × (all ≡ total (track_of_lem t (take m.run_count m.runs)) m.run_count + count (track_of_lem t (take m.run_count m.runs)) x.track m.run_count)
-      orders_parts first all runs before written after = (before ∙ orders_was, after ∙ ap (λ xs. total (track_of_lem t xs) (m.run_count + 1)) written ∙ orders_more)
+      -- the orders before the run, and with those that it brings, counted in the lists as they are then
+      pub orders_parts : (first all : ℕ) (runs runs' : List (Run K)) → runs ≡ m.runs → first ≡ total (track_of_lem t runs) m.run_count → runs' ≡ set m.runs m.run_count x → all ≡ total (track_of_lem t runs') (m.run_count + 1) → (first ≡ orders_entered t m) × (all ≡ orders_entered t m + orders_added t m x.track)
+      orders_parts first all runs runs' is before written after = (
+        before ∙ ap (λ xs. total (track_of_lem t xs) m.run_count) is ∙ orders_was,
+        after ∙ ap (λ xs. total (track_of_lem t xs) (m.run_count + 1)) written ∙ orders_more,
+      )
