@@ -40,7 +40,7 @@ pub(crate) fn admit_shown<'v, K: Kind>(
     times: &[K],
 ) -> Result<View<'v, K>, PlanFault>
     ensures rows { Answers plan_number plan_place (open_rows K.Kind.time (memory numbers (lists_in records.entry)) times.now) result }
-    ensures sound { IfOk result (λ v. (seen v ≡ front (memory numbers (lists_in records.entry))) × SoundOpen K.Kind.time (memory numbers (lists_in records.entry)) times.now) }
+    ensures sound { let m = memory numbers (lists_in records.entry) in IfOk result (λ v. (seen v ≡ front m) × SoundOpen K.Kind.time m times.now) }
 {
     let v = numbers.view(records);
     check_open(v, times)?;
@@ -59,7 +59,7 @@ fn admit<'v, K: Kind>(
 ) -> Result<View<'v, K>, PlanFault>
     ensures rows { Answers plan_number plan_place (open_call_rows K.Kind.time (lengths written ring (work_lengths work.now)) (memory numbers (lists_mut records.now)) times.now) result }
     ensures listed { OnOk result (Listed (lengths written ring (work_lengths work.now))) }
-    ensures sound { IfOk result (λ v. (seen v ≡ front (memory numbers (lists_mut records.now))) × SoundOpen K.Kind.time (memory numbers (lists_mut records.now)) times.now) }
+    ensures sound { let m = memory numbers (lists_mut records.now) in IfOk result (λ v. (seen v ≡ front m) × SoundOpen K.Kind.time m times.now) }
 {
     check_work(written, ring, work)?;
     admit_shown(numbers, records.lent(), times)
@@ -76,7 +76,7 @@ pub(crate) fn admit_report<K: Kind>(
     at: K,
 ) -> Result<(), PlanFault>
     ensures rows { Answers plan_number plan_place (report_call_rows K.Kind.time (lengths (length times.now) ring (work_lengths work.now)) (memory numbers (lists_mut records.now)) times.now event at) result }
-    ensures ready { OnOk result ((event / 2 < length records.now.runs.now) × Ready K.Kind.time (lengths (length times.now) ring (work_lengths work.now)) (memory numbers (lists_mut records.now)) (report_memory K.Kind.time (memory numbers (lists_mut records.now)) event at)) }
+    ensures ready { let m = memory numbers (lists_mut records.now) in OnOk result ((event / 2 < length records.now.runs.now) × Ready K.Kind.time (lengths (length times.now) ring (work_lengths work.now)) m (report_memory K.Kind.time m event at)) }
 {
     let v = admit(numbers, records, times, times.len(), ring, work)?;
     check_report(v, event, at)
@@ -93,7 +93,7 @@ pub(crate) fn admit_hold<K: Kind>(
     until: K,
 ) -> Result<(), PlanFault>
     ensures rows { Answers plan_number plan_place (hold_call_rows K.Kind.time (lengths (length times.now) ring (work_lengths work.now)) (memory numbers (lists_mut records.now)) times.now run until) result }
-    ensures ready { OnOk result ((run < length records.now.runs.now) × Ready K.Kind.time (lengths (length times.now) ring (work_lengths work.now)) (memory numbers (lists_mut records.now)) (hold_memory K.Kind.time (memory numbers (lists_mut records.now)) run (Some until))) }
+    ensures ready { let m = memory numbers (lists_mut records.now) in OnOk result ((run < length records.now.runs.now) × Ready K.Kind.time (lengths (length times.now) ring (work_lengths work.now)) m (hold_memory K.Kind.time m run (Some until))) }
 {
     let v = admit(numbers, records, times, times.len(), ring, work)?;
     check_hold(v, run, until)
@@ -110,7 +110,7 @@ pub(crate) fn admit_release<K: Kind>(
     slip_run: u16,
 ) -> Result<(), PlanFault>
     ensures rows { Answers plan_number plan_place (release_call_rows K.Kind.time (lengths (length times.now) ring (work_lengths work.now)) (memory numbers (lists_mut records.now)) times.now numbers.number slip_plan slip_run) result }
-    ensures ready { OnOk result ((slip_run < length records.now.runs.now) × Ready K.Kind.time (lengths (length times.now) ring (work_lengths work.now)) (memory numbers (lists_mut records.now)) (hold_memory K.Kind.time (memory numbers (lists_mut records.now)) slip_run None)) }
+    ensures ready { let m = memory numbers (lists_mut records.now) in OnOk result ((slip_run < length records.now.runs.now) × Ready K.Kind.time (lengths (length times.now) ring (work_lengths work.now)) m (hold_memory K.Kind.time m slip_run None)) }
 {
     let v = admit(numbers, records, times, times.len(), ring, work)?;
     check_release(v, numbers.number, slip_plan, slip_run)
@@ -129,7 +129,7 @@ pub(crate) fn admit_turning<K: Kind>(
     setting: u8,
 ) -> Result<usize, PlanFault>
     ensures rows { Answers plan_number plan_place (turning_call_rows K.Kind.time (lengths written ring (work_lengths work.now)) (memory numbers (lists_mut records.now)) times.now switch setting) result }
-    ensures ready { IfOk result (λ p. (p ≡ setting_place K.Kind.time (register_of K.Kind.time (memory numbers (lists_mut records.now))) switch) × (p < length records.now.settings.now) × Ready K.Kind.time (lengths written ring (work_lengths work.now)) (memory numbers (lists_mut records.now)) (switch_memory K.Kind.time (memory numbers (lists_mut records.now)) switch setting)) }
+    ensures ready { let m = memory numbers (lists_mut records.now) in IfOk result (λ p. (p ≡ setting_place K.Kind.time (register_of K.Kind.time m) switch) × (p < length records.now.settings.now) × Ready K.Kind.time (lengths written ring (work_lengths work.now)) m (switch_memory K.Kind.time m switch setting)) }
 {
     let v = admit(numbers, records, times, written, ring, work)?;
     check_turning(v, switch, setting)?;

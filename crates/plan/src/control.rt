@@ -51,7 +51,7 @@ impl Open {
         event: u16,
         at: K,
     ) -> Result<(), PlanFault>
-        ensures reckons { Reckons K.Kind.time (report_call_rows K.Kind.time (lengths (length times.old) (length ring.old) (work_lengths work.old)) (memory self.now.numbers (lists_mut records.old)) times.old event at) (register_of K.Kind.time (report_memory K.Kind.time (memory self.now.numbers (lists_mut records.old)) event at)) times.old times.new ring.old ring.new result }
+        ensures reckons { let m = memory self.now.numbers (lists_mut records.old) in Reckons K.Kind.time (report_call_rows K.Kind.time (lengths (length times.old) (length ring.old) (work_lengths work.old)) m times.old event at) (register_of K.Kind.time (report_memory K.Kind.time m event at)) times.old times.new ring.old ring.new result }
         ensures records { MatchResult result (λ _. memory self.now.numbers (lists_mut records.new) ≡ report_memory K.Kind.time (memory self.now.numbers (lists_mut records.old)) event at) (λ _. lists_mut records.new ≡ lists_mut records.old) }
         ensures lent { SameRecords records.old records.new }
         ensures work { SameWork work.old work.new }
@@ -72,7 +72,7 @@ impl Open {
         switch: Switch,
         setting: u8,
     ) -> Result<(), PlanFault>
-        ensures reckons { Reckons K.Kind.time (turning_call_rows K.Kind.time (lengths (length times.old) (length ring.old) (work_lengths work.old)) (memory self.now.numbers (lists_mut records.old)) times.old switch setting) (register_of K.Kind.time (switch_memory K.Kind.time (memory self.now.numbers (lists_mut records.old)) switch setting)) times.old times.new ring.old ring.new result }
+        ensures reckons { let m = memory self.now.numbers (lists_mut records.old) in Reckons K.Kind.time (turning_call_rows K.Kind.time (lengths (length times.old) (length ring.old) (work_lengths work.old)) m times.old switch setting) (register_of K.Kind.time (switch_memory K.Kind.time m switch setting)) times.old times.new ring.old ring.new result }
         ensures records { MatchResult result (λ _. memory self.now.numbers (lists_mut records.new) ≡ switch_memory K.Kind.time (memory self.now.numbers (lists_mut records.old)) switch setting) (λ _. lists_mut records.new ≡ lists_mut records.old) }
         ensures lent { SameRecords records.old records.new }
         ensures work { SameWork work.old work.new }
@@ -101,7 +101,7 @@ impl Open {
         j: u16,
         setting: u8,
     ) -> Result<(), PlanFault>
-        ensures reckons { Reckons K.Kind.time (turning_call_rows K.Kind.time (lengths (length times.old) (length ring.old) (work_lengths work.old)) (memory self.now.numbers (lists_mut records.old)) times.old (named.Order i j) setting) (register_of K.Kind.time (switch_memory K.Kind.time (memory self.now.numbers (lists_mut records.old)) (named.Order i j) setting)) times.old times.new ring.old ring.new result }
+        ensures reckons { let m = memory self.now.numbers (lists_mut records.old) in Reckons K.Kind.time (turning_call_rows K.Kind.time (lengths (length times.old) (length ring.old) (work_lengths work.old)) m times.old (named.Order i j) setting) (register_of K.Kind.time (switch_memory K.Kind.time m (named.Order i j) setting)) times.old times.new ring.old ring.new result }
         ensures records { MatchResult result (λ _. memory self.now.numbers (lists_mut records.new) ≡ switch_memory K.Kind.time (memory self.now.numbers (lists_mut records.old)) (named.Order i j) setting) (λ _. lists_mut records.new ≡ lists_mut records.old) }
         ensures lent { SameRecords records.old records.new }
         ensures work { SameWork work.old work.new }
@@ -120,7 +120,7 @@ impl Open {
         c: u16,
         setting: u8,
     ) -> Result<(), PlanFault>
-        ensures reckons { Reckons K.Kind.time (turning_call_rows K.Kind.time (lengths (length times.old) (length ring.old) (work_lengths work.old)) (memory self.now.numbers (lists_mut records.old)) times.old (named.Connection c) setting) (register_of K.Kind.time (switch_memory K.Kind.time (memory self.now.numbers (lists_mut records.old)) (named.Connection c) setting)) times.old times.new ring.old ring.new result }
+        ensures reckons { let m = memory self.now.numbers (lists_mut records.old) in Reckons K.Kind.time (turning_call_rows K.Kind.time (lengths (length times.old) (length ring.old) (work_lengths work.old)) m times.old (named.Connection c) setting) (register_of K.Kind.time (switch_memory K.Kind.time m (named.Connection c) setting)) times.old times.new ring.old ring.new result }
         ensures records { MatchResult result (λ _. memory self.now.numbers (lists_mut records.new) ≡ switch_memory K.Kind.time (memory self.now.numbers (lists_mut records.old)) (named.Connection c) setting) (λ _. lists_mut records.new ≡ lists_mut records.old) }
         ensures lent { SameRecords records.old records.new }
         ensures work { SameWork work.old work.new }
@@ -139,7 +139,7 @@ impl Open {
         run: u16,
         until: K,
     ) -> Result<Slip, PlanFault>
-        ensures reckons { Reckons K.Kind.time (hold_call_rows K.Kind.time (lengths (length times.old) (length ring.old) (work_lengths work.old)) (memory self.now.numbers (lists_mut records.old)) times.old run until) (register_of K.Kind.time (hold_memory K.Kind.time (memory self.now.numbers (lists_mut records.old)) run (Some until))) times.old times.new ring.old ring.new result }
+        ensures reckons { let m = memory self.now.numbers (lists_mut records.old) in Reckons K.Kind.time (hold_call_rows K.Kind.time (lengths (length times.old) (length ring.old) (work_lengths work.old)) m times.old run until) (register_of K.Kind.time (hold_memory K.Kind.time m run (Some until))) times.old times.new ring.old ring.new result }
         ensures records { MatchResult result (λ _. memory self.now.numbers (lists_mut records.new) ≡ hold_memory K.Kind.time (memory self.now.numbers (lists_mut records.old)) run (Some until)) (λ _. lists_mut records.new ≡ lists_mut records.old) }
         ensures slip { IfOk result (λ s. (s.plan ≡ self.now.numbers.number) × (s.run ≡ run)) }
         ensures lent { SameRecords records.old records.new }
@@ -165,7 +165,7 @@ impl Open {
         slip_plan: u32,
         slip_run: u16,
     ) -> Result<(), PlanFault>
-        ensures reckons { Reckons K.Kind.time (release_call_rows K.Kind.time (lengths (length times.old) (length ring.old) (work_lengths work.old)) (memory self.now.numbers (lists_mut records.old)) times.old self.now.numbers.number slip_plan slip_run) (register_of K.Kind.time (hold_memory K.Kind.time (memory self.now.numbers (lists_mut records.old)) slip_run None)) times.old times.new ring.old ring.new result }
+        ensures reckons { let m = memory self.now.numbers (lists_mut records.old) in Reckons K.Kind.time (release_call_rows K.Kind.time (lengths (length times.old) (length ring.old) (work_lengths work.old)) m times.old self.now.numbers.number slip_plan slip_run) (register_of K.Kind.time (hold_memory K.Kind.time m slip_run None)) times.old times.new ring.old ring.new result }
         ensures records { MatchResult result (λ _. memory self.now.numbers (lists_mut records.new) ≡ hold_memory K.Kind.time (memory self.now.numbers (lists_mut records.old)) slip_run None) (λ _. lists_mut records.new ≡ lists_mut records.old) }
         ensures lent { SameRecords records.old records.new }
         ensures work { SameWork work.old work.new }
@@ -193,7 +193,7 @@ impl Open {
         work: &mut Work<'_, K>,
         slip: Slip,
     ) -> Result<(), Unreleased>
-        ensures reckons { Reckons K.Kind.time (release_call_rows K.Kind.time (lengths (length times.old) (length ring.old) (work_lengths work.old)) (memory self.now.numbers (lists_mut records.old)) times.old self.now.numbers.number slip.plan slip.run) (register_of K.Kind.time (hold_memory K.Kind.time (memory self.now.numbers (lists_mut records.old)) slip.run None)) times.old times.new ring.old ring.new (released result) }
+        ensures reckons { let m = memory self.now.numbers (lists_mut records.old) in Reckons K.Kind.time (release_call_rows K.Kind.time (lengths (length times.old) (length ring.old) (work_lengths work.old)) m times.old self.now.numbers.number slip.plan slip.run) (register_of K.Kind.time (hold_memory K.Kind.time m slip.run None)) times.old times.new ring.old ring.new (released result) }
         ensures records { MatchResult result (λ _. memory self.now.numbers (lists_mut records.new) ≡ hold_memory K.Kind.time (memory self.now.numbers (lists_mut records.old)) slip.run None) (λ _. lists_mut records.new ≡ lists_mut records.old) }
         ensures slip { IfErr result (λ u. u.slip ≡ slip) }
         ensures lent { SameRecords records.old records.new }

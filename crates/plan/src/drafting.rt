@@ -1,11 +1,12 @@
 //! What the calls on a draft refuse.
-ghost use Rattle.std.specs.Prelude.{◌≡◌, ◌<◌, ◌≤◌, length, IfOk, OnOk};
+ghost use Rattle.std.specs.Prelude.{◌≡◌, ◌+◌, ◌<◌, ◌≤◌, length, IfOk, OnOk};
 ghost use Rattle.network.specs.Refusals.{Answers, Passed};
 ghost use Rattle.records.specs.Lent.{lists_in, lists_mut};
 ghost use Rattle.records.specs.Register.{seen, front, register_of};
 ghost use Rattle.rules.specs.Faults.{plan_number, plan_place};
-ghost use Rattle.rules.specs.Rows.{SoundDraft, draft_rows, orders_with, setting_place, switch_rows};
+ghost use Rattle.rules.specs.Rows.{SoundDraft, draft_rows, setting_place, switch_rows};
 ghost use Rattle.plan.specs.States.{memory};
+ghost use Rattle.plan.specs.Steps.{orders_entered, orders_added};
 ghost use Rattle.plan.specs.Drafting.{track_call_rows, run_call_rows, connection_call_rows, preset_call_rows, setting_call_rows};
 
 use crate::states::Numbers;
@@ -19,7 +20,7 @@ use rules::{
 // What every call on a draft refuses. Taken, what is entered of it.
 fn admit<'v, K: Kind>(numbers: Numbers, records: Records<'v, K>) -> Result<View<'v, K>, PlanFault>
     ensures rows { Answers plan_number plan_place (draft_rows K.Kind.time (memory numbers (lists_in records.entry))) result }
-    ensures sound { IfOk result (λ v. (seen v ≡ front (memory numbers (lists_in records.entry))) × SoundDraft K.Kind.time (memory numbers (lists_in records.entry))) }
+    ensures sound { let m = memory numbers (lists_in records.entry) in IfOk result (λ v. (seen v ≡ front m) × SoundDraft K.Kind.time m) }
 {
     let v = numbers.view(records);
     check_draft(v)?;
@@ -32,7 +33,7 @@ fn admit_lent<'v, K: Kind>(
     records: &'v RecordsMut<'_, K>,
 ) -> Result<View<'v, K>, PlanFault>
     ensures rows { Answers plan_number plan_place (draft_rows K.Kind.time (memory numbers (lists_mut records.now))) result }
-    ensures sound { IfOk result (λ v. (seen v ≡ front (memory numbers (lists_mut records.now))) × SoundDraft K.Kind.time (memory numbers (lists_mut records.now))) }
+    ensures sound { let m = memory numbers (lists_mut records.now) in IfOk result (λ v. (seen v ≡ front m) × SoundDraft K.Kind.time m) }
 {
     admit(numbers, records.lent())
 }
@@ -57,7 +58,7 @@ pub(crate) fn admit_run<K: Kind>(
     run: Run<K>,
 ) -> Result<(), PlanFault>
     ensures rows { Answers plan_number plan_place (run_call_rows K.Kind.time (memory numbers (lists_mut records.now)) run) result }
-    ensures room { OnOk result (SoundDraft K.Kind.time (memory numbers (lists_mut records.now)) × ((numbers.runs < 512) × ((run.track < 64) × (orders_with K.Kind.time (register_of K.Kind.time (memory numbers (lists_mut records.now))) run.track ≤ 4096)))) }
+    ensures room { let m = memory numbers (lists_mut records.now) in OnOk result (SoundDraft K.Kind.time m × ((numbers.runs < 512) × ((run.track < 64) × (orders_entered K.Kind.time m + orders_added K.Kind.time m run.track ≤ 4096)))) }
 {
     let v = admit_lent(numbers, records)?;
     check_run(v, run)
@@ -98,7 +99,7 @@ pub(crate) fn admit_switch<'v, K: Kind>(
     switch: Switch,
 ) -> Result<View<'v, K>, PlanFault>
     ensures rows { Answers plan_number plan_place (setting_call_rows K.Kind.time (memory numbers (lists_in records.entry)) switch) result }
-    ensures known { IfOk result (λ v. (seen v ≡ front (memory numbers (lists_in records.entry))) × (SoundDraft K.Kind.time (memory numbers (lists_in records.entry)) × Passed (switch_rows K.Kind.time (register_of K.Kind.time (memory numbers (lists_in records.entry))) switch))) }
+    ensures known { let m = memory numbers (lists_in records.entry) in IfOk result (λ v. (seen v ≡ front m) × (SoundDraft K.Kind.time m × Passed (switch_rows K.Kind.time (register_of K.Kind.time m) switch))) }
 {
     let v = admit(numbers, records)?;
     check_switch(v, switch)?;

@@ -23,7 +23,7 @@ fn start<K: Kind>(
     ring: &mut [u16],
     work: &mut Work<'_, K>,
 ) -> Result<(), PlanFault>
-    ensures reckons { Reckons K.Kind.time (opening_rows K.Kind.time (lengths (length times.old) (length ring.old) (work_lengths work.old)) (memory numbers (lists_in records.entry))) (register_of K.Kind.time (memory numbers (lists_in records.entry))) times.old times.new ring.old ring.new result }
+    ensures reckons { let m = memory numbers (lists_in records.entry) in Reckons K.Kind.time (opening_rows K.Kind.time (lengths (length times.old) (length ring.old) (work_lengths work.old)) m) (register_of K.Kind.time m) times.old times.new ring.old ring.new result }
     ensures work { SameWork work.old work.new }
 {
     check_work(times.len(), ring.len(), work)?;
@@ -40,7 +40,7 @@ impl Draft {
         ring: &mut [u16],
         work: &mut Work<'_, K>,
     ) -> Result<Open, Unopened>
-        ensures reckons { Reckons K.Kind.time (opening_rows K.Kind.time (lengths (length times.old) (length ring.old) (work_lengths work.old)) (memory self.numbers (lists_in records.entry))) (register_of K.Kind.time (memory self.numbers (lists_in records.entry))) times.old times.new ring.old ring.new (opened result) }
+        ensures reckons { let m = memory self.numbers (lists_in records.entry) in Reckons K.Kind.time (opening_rows K.Kind.time (lengths (length times.old) (length ring.old) (work_lengths work.old)) m) (register_of K.Kind.time m) times.old times.new ring.old ring.new (opened result) }
         ensures plan { MatchResult result (λ o. o.numbers ≡ self.numbers) (λ u. u.draft ≡ self) }
         ensures work { SameWork work.old work.new }
     {

@@ -24,7 +24,7 @@ impl Open {
         times: &[K],
         event: u16,
     ) -> Result<K, PlanFault>
-        ensures rows { Answers plan_number plan_place (open_rows K.Kind.time (memory self.now.numbers (lists_in records.entry)) times.now ++ event_rows K.Kind.time (register_of K.Kind.time (memory self.now.numbers (lists_in records.entry))) event) result }
+        ensures rows { let m = memory self.now.numbers (lists_in records.entry) in Answers plan_number plan_place (open_rows K.Kind.time m times.now ++ event_rows K.Kind.time (register_of K.Kind.time m) event) result }
         ensures value { IfOk result (λ x. x ≡ time_at K.Kind.time times.now event) }
     {
         let v = admit_shown(self.numbers, records, times)?;
@@ -39,7 +39,7 @@ impl Open {
         times: &[K],
         switch: Switch,
     ) -> Result<u8, PlanFault>
-        ensures rows { Answers plan_number plan_place (open_rows K.Kind.time (memory self.now.numbers (lists_in records.entry)) times.now ++ switch_rows K.Kind.time (register_of K.Kind.time (memory self.now.numbers (lists_in records.entry))) switch) result }
+        ensures rows { let m = memory self.now.numbers (lists_in records.entry) in Answers plan_number plan_place (open_rows K.Kind.time m times.now ++ switch_rows K.Kind.time (register_of K.Kind.time m) switch) result }
         ensures value { IfOk result (λ x. x ≡ setting_of_lem K.Kind.time (register_of K.Kind.time (memory self.now.numbers (lists_in records.entry))) switch) }
     {
         let v = admit_shown(self.numbers, records, times)?;

@@ -102,7 +102,7 @@ impl Open {
         switch: Switch,
         setting: u8,
     ) -> Result<u64, PlanFault>
-        ensures reckons { Reckons K.Kind.time (turning_call_rows K.Kind.time (lengths (length trial.old) (length ring.old) (work_lengths work.old)) (memory self.now.numbers (lists_mut records.old)) times.now switch setting) (register_of K.Kind.time (switch_memory K.Kind.time (memory self.now.numbers (lists_mut records.old)) switch setting)) trial.old trial.new ring.old ring.new result }
+        ensures reckons { let m = memory self.now.numbers (lists_mut records.old) in Reckons K.Kind.time (turning_call_rows K.Kind.time (lengths (length trial.old) (length ring.old) (work_lengths work.old)) m times.now switch setting) (register_of K.Kind.time (switch_memory K.Kind.time m switch setting)) trial.old trial.new ring.old ring.new result }
         ensures cost { IfOk result (λ n. n ≡ delay_cost_lem K.Kind.time (register_of K.Kind.time (switch_memory K.Kind.time (memory self.now.numbers (lists_mut records.old)) switch setting)) (time_at K.Kind.time trial.new)) }
         ensures records { lists_mut records.new ≡ lists_mut records.old }
         ensures lent { SameRecords records.old records.new }

@@ -1,11 +1,11 @@
 use Rattle.std.proofs.Common.{◌≡◌, ℕ, ◌*◌, List, [], length, take, set, sym, ap, ◌∙◌, subst, arith, set-set}
 use lib.Seq.{set-get_or}
-use Rattle.std.proofs.lemmas.List.{length-take-le}
 use Rattle.network.specs.Reckoning.{at}
 use Rattle.records.specs.Register.{register_of}
 use Rattle.records.specs.Stored.{Shown}
 use Rattle.force.proofs.Sizes.{least_small}
 use Rattle.plan.specs.States.{memory, lists}
+use Rattle.plan.proofs.Stays.{long_runs}
 use Rattle.plan.proofs.Reckoned.{taken, failed, reckons, reckons_taken, reckons_failed}
 use Rattle.plan.proofs.trials.try_setting.Goals as goal
 
@@ -33,9 +33,7 @@ delay_cost-requires-clause-shown g c =
     let new = c.put_in_force.new in
     let now = R (set a.settings.now a.place a.setting) in
     let reckoned = reckons t a.trial.now new.times a.ring.now new.ring [] (R c.bytes.result.now) now (taken (Unit {0}) tt) tt (ap R c.bytes.ensures) c.in_ok-put_in_force.ensures.reckons in
-    let few = c.requires.stored.few_runs in
-    let long_runs = c.requires.records.runs in
-    let long : length (take a.numbers.runs a.runs.now) ≡ a.numbers.runs = length-take-le a.numbers.runs a.runs.now (omega arith) in
+    let long = long_runs t (memory a.numbers (lists a.tracks.now a.runs.now a.connections.now (set a.settings.now a.place a.setting))) c.requires.records.runs c.requires.stored in
     let shown : Shown t new.times (2 * a.numbers.runs) = record { each = λ v h. least_small t now c.requires.stored.limits g.met.K.Kind.laws (at t new.times) reckoned.shows.0 v (omega arith) } in
     subst (λ (n : ℕ). Shown t new.times (2 * n)) (sym (ap (λ x. x.run_count) c.view-v.ensures)) shown
 

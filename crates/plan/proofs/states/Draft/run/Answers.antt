@@ -7,7 +7,7 @@ use Rattle.plan.specs.States.{memory, lists}
 use Rattle.plan.specs.Steps.{unused, cleared, orders_entered, orders_added, run_memory}
 use Rattle.plan.specs.Drafting.{run_call_rows}
 use Rattle.plan.proofs.Told.{left_answers}
-use Rattle.plan.proofs.Entering.{on_tracks, on_tracks_more, orders_parts, long_runs}
+use Rattle.plan.proofs.Entering.{on_tracks, on_tracks_more, orders_parts}
 use Rattle.plan.proofs.states.Draft.run.Goals as goal
 use Rattle.plan.proofs.states.Draft.run.Goals.{After-orders_below}
 use Rattle.plan.proofs.states.Draft.run.Given.{Over}
@@ -43,13 +43,8 @@ overflow_sub-number g c = let h = parts g c in omega arith
 
 pub clear-requires : goal.clear-requires
 clear-requires g c =
-    let t = g.K.Kind.time in
-    let a = c.args in
-    let m = memory a.self.now.numbers (lists_mut a.records.now) in
     let room = c.in_ok-admit_run.ensures.room in
-    let h = parts g (goal.at.clear-requires g c).After-orders_below in
-    let f = track_of_lem t (take a.self.now.numbers.runs a.records.now.runs.now) in
-    let long = ap (λ (i : ℕ). total f i + count f a.run.track i) (long_runs t m room.0) in omega (arith, h.0, h.1, room.1.1.1, room.0.listed.settings)
+    let h = parts g (goal.at.clear-requires g c).After-orders_below in omega (arith, h.0, h.1, room.1.1.1, room.0.listed.settings)
 
 pub returns-clause-writes : goal.returns-clause-writes
 returns-clause-writes g c =
