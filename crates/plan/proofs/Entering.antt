@@ -1,7 +1,7 @@
 -- What is known once no row of a call on a draft applies, and the orders that a new run brings.
 use Rattle.std.proofs.Common.{◌≡◌, ℕ, ◌+◌, ◌<◌, ◌≤◌, List, length, take, set, IfOk, Ok, Err, Result, sym, ap, ◌∙◌, inl, inr, arith}
 use Rattle.std.proofs.lemmas.Bool.{cases_lt}
-use Rattle.std.proofs.lemmas.List.{get_or-set_same, get_or-set_other, get_or-take, length-take-le}
+use Rattle.std.proofs.lemmas.List.{get_or-set_same, get_or-set_other, get_or-take}
 use Rattle.kinds.specs.Time.{Time}
 use Rattle.network.specs.Refusals.{Answers}
 use Rattle.records.specs.declared.Run.{Run}

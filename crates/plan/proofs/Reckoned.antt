@@ -1,5 +1,5 @@
 -- From the answer of a reckoning to that of the call.
-use Rattle.std.proofs.Common.{◌≡◌, ℕ, List, [], ◌++◌, Ok, Err, Result, refl, subst, inl, arith}
+use Rattle.std.proofs.Common.{◌≡◌, ℕ, List, [], Ok, Err, Result, refl, subst, inl, arith}
 use Rattle.kinds.specs.Time.{Time}
 use Rattle.network.specs.declared.faults.NetworkFault.{NetworkFault}
 use Rattle.network.specs.declared.faults.NetworkFault.TheVariants as network

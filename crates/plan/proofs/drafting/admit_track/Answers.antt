@@ -1,16 +1,9 @@
 use Rattle.records.specs.Lent.{lists_mut}
-use Rattle.records.specs.Register.{Memory, all_of, register_of}
+use Rattle.records.specs.Register.{Memory, all_of}
 use Rattle.rules.specs.Rows.{draft_rows, track_rows}
 use Rattle.plan.specs.States.{memory}
-use Rattle.plan.proofs.Told.{left_front, told_behind}
+use Rattle.plan.proofs.Told.{told_behind}
 use Rattle.plan.proofs.drafting.admit_track.Goals as goal
-
-pub returns-in_err-v-clause-rows : goal.returns-in_err-v-clause-rows
-returns-in_err-v-clause-rows g c =
-    let t = g.K.Kind.time in
-    let a = c.args in
-    let m = memory a.numbers (lists_mut a.records.now) in
-    left_front _ _ c.from_residual.ensures.1 (draft_rows t m) (track_rows t (register_of t m) a.track) c.in_err-v.ensures.rows
 
 pub returns-clause-rows : goal.returns-clause-rows
 returns-clause-rows g c =

@@ -1,4 +1,4 @@
-use Rattle.std.proofs.Common.{◌≡◌, ℕ, ◌*◌, List, [], length, take, set, sym, ap, ◌∙◌, subst, arith, set-set}
+use Rattle.std.proofs.Common.{ℕ, ◌*◌, List, [], set, sym, ap, ◌∙◌, subst, arith, set-set}
 use lib.Seq.{set-get_or}
 use Rattle.network.specs.Reckoning.{at}
 use Rattle.records.specs.Register.{register_of}
