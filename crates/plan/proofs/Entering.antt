@@ -1,57 +1,33 @@
 -- What is known once no row of a call on a draft applies, and the orders that a new run brings.
 use Rattle.std.proofs.Common.{◌≡◌, ℕ, ◌+◌, ◌<◌, ◌≤◌, List, length, take, set, IfOk, Ok, Err, Result, sym, ap, ◌∙◌, inl, inr, arith}
 use Rattle.std.proofs.lemmas.Bool.{cases_lt}
-use Rattle.std.proofs.lemmas.List.{get_or-set_same, get_or-set_other, get_or-take, length-take-le}
+use Rattle.std.proofs.lemmas.List.{get_or-set_same, get_or-set_other, get_or-take}
 use Rattle.kinds.specs.Time.{Time}
-use Rattle.network.specs.Refusals.{Answers, Passed}
-use Rattle.records.specs.declared.Track.{Track}
+use Rattle.network.specs.Refusals.{Answers}
 use Rattle.records.specs.declared.Run.{Run}
-use Rattle.records.specs.declared.Connection.{Connection}
 use Rattle.records.specs.Records.{track_of_lem}
 use Rattle.records.specs.Places.{total, count}
 use Rattle.records.specs.Register.{Memory, register_of}
 use Rattle.records.proofs.Counts.{total_more, total_kept, count_kept}
 use Rattle.rules.specs.declared.faults.PlanFault.{PlanFault}
-use Rattle.rules.specs.declared.switches.Switch.{Switch}
 use Rattle.rules.specs.Faults.{plan_number, plan_place}
-use Rattle.rules.specs.Rows.{SoundDraft, track_rows, run_rows, connection_rows, switch_rows, setting_rows, orders_with}
-use Rattle.rules.proofs.Rows.{track_passed, run_passed, connection_passed, setting_named}
-
--- no more records are entered than there are
-abbrev pub Fits : {K : Type 0} → Memory K → Type 0
-Fits m = (m.track_count ≤ length m.tracks) × ((m.run_count ≤ length m.runs) × (m.connection_count ≤ length m.connections))
+use Rattle.rules.specs.Rows.{SoundDraft, run_rows}
+use Rattle.plan.specs.Steps.{orders_entered, orders_added}
+use Rattle.plan.proofs.Stays.{long_runs}
+use Rattle.rules.proofs.Rows.{run_passed}
 
 module _ {K : Type 0} (t : Time K) where
   module _ (m : Memory K) (sound : SoundDraft t m) where
-    pub fits : Fits m
-    fits =
-        let s = sound.stored in
-        let l = sound.listed in (omega (arith, s.few_tracks, l.tracks), (omega (arith, s.few_runs, l.runs), omega (arith, s.few_connections, l.connections)))
+    long : length (take m.run_count m.runs) ≡ m.run_count
+    long = long_runs t m sound.listed.runs sound.stored
 
-    pub long_runs : length (take m.run_count m.runs) ≡ m.run_count
-    long_runs = length-take-le m.run_count m.runs fits.1.0
-
-    pub track_room : (x : Track K) (r : Result (Unit {0}) PlanFault) → Answers plan_number plan_place (track_rows t (register_of t m) x) r → IfOk r (λ _. SoundDraft t m × (m.track_count < 64))
-    track_room x (Err f) a = tt
-    track_room x (Ok u) a = let e = length-take-le m.track_count m.tracks fits.0 in (sound, omega (arith, (track_passed t (register_of t m) x a).1))
-
-    pub run_room : (x : Run K) (r : Result (Unit {0}) PlanFault) → Answers plan_number plan_place (run_rows t (register_of t m) x) r → IfOk r (λ _. SoundDraft t m × ((m.run_count < 512) × ((x.track < 64) × (orders_with t (register_of t m) x.track ≤ 4096))))
+    pub run_room : (x : Run K) (r : Result (Unit {0}) PlanFault) → Answers plan_number plan_place (run_rows t (register_of t m) x) r → IfOk r (λ _. SoundDraft t m × ((m.run_count < 512) × ((x.track < 64) × (orders_entered t m + orders_added t m x.track ≤ 4096))))
     run_room x (Err f) a = tt
     run_room x (Ok u) a =
         let h = run_passed t (register_of t m) x a in
-        let e = long_runs in (sound, (omega (arith, h.room), (omega (arith, h.linked.1.0, sound.stored.limits.few_tracks), h.orders)))
-
-    pub connection_room : (x : Connection K) (r : Result (Unit {0}) PlanFault) → Answers plan_number plan_place (connection_rows t (register_of t m) x) r → IfOk r (λ _. SoundDraft t m × (m.connection_count < 512))
-    connection_room x (Err f) a = tt
-    connection_room x (Ok u) a = let e = length-take-le m.connection_count m.connections fits.1.1 in (sound, omega (arith, (connection_passed t (register_of t m) x a).1))
-
-    pub switch_known : (s : Switch) (r : Result (Unit {0}) PlanFault) → Answers plan_number plan_place (switch_rows t (register_of t m) s) r → IfOk r (λ _. SoundDraft t m × Passed (switch_rows t (register_of t m) s))
-    switch_known s (Err f) a = tt
-    switch_known s (Ok u) a = (sound, a)
-
-    pub preset_known : (s : Switch) (v : ℕ) (r : Result (Unit {0}) PlanFault) → Answers plan_number plan_place (setting_rows t (register_of t m) s v) r → IfOk r (λ _. SoundDraft t m × Passed (switch_rows t (register_of t m) s))
-    preset_known s v (Err f) a = tt
-    preset_known s v (Ok u) a = (sound, setting_named t (register_of t m) s v a)
+        let f = track_of_lem t (take m.run_count m.runs) in
+        let e = ap (λ (i : ℕ). total f i + count f x.track i) long in
+        (sound, (omega (arith, h.room, long), (omega (arith, h.linked.1.0, sound.stored.limits.few_tracks), omega (arith, h.orders))))
 
     -- the track of an entered run
     pub track_was : (k : ℕ) → k < m.run_count → track_of_lem t (take m.run_count m.runs) k ≡ track_of_lem t m.runs k
@@ -59,11 +35,11 @@ module _ {K : Type 0} (t : Time K) where
 
     pub on_tracks : (k : ℕ) → k < m.run_count → track_of_lem t m.runs k < 64
     on_tracks k h =
-        let e = long_runs in
+        let e = long in
         let s = track_was k h in
         omega (arith, (sound.stored.limits.runs.each k (omega arith)).0.1.0, sound.stored.limits.few_tracks)
 
-    pub orders_was : total (track_of_lem t m.runs) m.run_count ≡ total (track_of_lem t (take m.run_count m.runs)) m.run_count
+    pub orders_was : total (track_of_lem t m.runs) m.run_count ≡ orders_entered t m
     orders_was = total_kept (track_of_lem t m.runs) (track_of_lem t (take m.run_count m.runs)) m.run_count (λ k h. sym (track_was k h))
 
     -- one run more
@@ -84,7 +60,7 @@ module _ {K : Type 0} (t : Time K) where
             | inr l ↦ (let q : k ≡ m.run_count = omega arith in let z = ap (track_of_lem t (set m.runs m.run_count x)) q in let e = track_new in omega arith)
           ]
 
-      pub orders_more : total (track_of_lem t (set m.runs m.run_count x)) (m.run_count + 1) ≡ total (track_of_lem t (take m.run_count m.runs)) m.run_count + count (track_of_lem t (take m.run_count m.runs)) x.track m.run_count
+      pub orders_more : total (track_of_lem t (set m.runs m.run_count x)) (m.run_count + 1) ≡ orders_entered t m + orders_added t m x.track
       orders_more =
           let n = m.run_count in
           let f = track_of_lem t (take n m.runs) in
@@ -95,6 +71,9 @@ module _ {K : Type 0} (t : Time K) where
           let c : count g (g n) n ≡ count g x.track n = ap (λ (y : ℕ). count g y n) track_new in
           let d = count_kept g f x.track n same in omega arith
 
-      -- the orders before the run, and with those that it brings
-      pub orders_parts : (first all : ℕ) (runs : List (Run K)) → first ≡ total (track_of_lem t m.runs) m.run_count → runs ≡ set m.runs m.run_count x → all ≡ total (track_of_lem t runs) (m.run_count + 1) → (first ≡ total (track_of_lem t (take m.run_count m.runs)) m.run_count) × (all ≡ total (track_of_lem t (take m.run_count m.runs)) m.run_count + count (track_of_lem t (take m.run_count m.runs)) x.track m.run_count)
-      orders_parts first all runs before written after = (before ∙ orders_was, after ∙ ap (λ xs. total (track_of_lem t xs) (m.run_count + 1)) written ∙ orders_more)
+      -- the orders before the run, and with those that it brings, counted in the lists as they are then
+      pub orders_parts : (first all : ℕ) (runs runs' : List (Run K)) → runs ≡ m.runs → first ≡ total (track_of_lem t runs) m.run_count → runs' ≡ set m.runs m.run_count x → all ≡ total (track_of_lem t runs') (m.run_count + 1) → (first ≡ orders_entered t m) × (all ≡ orders_entered t m + orders_added t m x.track)
+      orders_parts first all runs runs' is before written after = (
+        before ∙ ap (λ xs. total (track_of_lem t xs) m.run_count) is ∙ orders_was,
+        after ∙ ap (λ xs. total (track_of_lem t xs) (m.run_count + 1)) written ∙ orders_more,
+      )

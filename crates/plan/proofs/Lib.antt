@@ -1,4 +1,5 @@
 pub mod Stays
+pub mod Told
 pub mod Reckoned
 pub mod Ready
 pub mod Entering

@@ -1,7 +1,7 @@
 -- What is known once no row before the ring applies.
 use Rattle.std.proofs.Common.{◌≡◌, ℕ, ◌*◌, ◌/◌, ◌%◌, ◌<◌, ◌≤◌, true, false, List, length, take, set, IfSome, IfOk, Some, None, Ok, Err, Option, Result, refl, subst, inl, inr, arith, MatchOption}
 use Rattle.std.proofs.lemmas.Bool.{cases_lt, cases_Bool}
-use Rattle.std.proofs.lemmas.List.{get_or-take, length-take-le}
+use Rattle.std.proofs.lemmas.List.{get_or-take}
 use Rattle.kinds.specs.Time.{Time}
 use Rattle.network.specs.Refusals.{Answers, Passed}
 use Rattle.records.specs.declared.Run.{Run}
@@ -15,12 +15,7 @@ use Rattle.rules.proofs.Rows.{setting_flag, turning_set}
 use Rattle.rules.specs.declared.switches.Switch.{Switch}
 use Rattle.plan.specs.Steps.{with_runs, reported, holding, report_memory, hold_memory, switch_memory}
 use Rattle.plan.specs.Calls.{Lengths, Listed, Ready}
-use Rattle.plan.proofs.Stays.{stored_settings, stored_run, reported_stored, holding_stored}
-
--- two facts of a taken call
-pub both : {X E L : Type 0} (P : Type 0) (r : Result X E) → L → IfOk r (λ _. P) → IfOk r (λ _. L × P)
-both P (Ok x) l p = (l, p)
-both P (Err e) l p = tt
+use Rattle.plan.proofs.Stays.{long_runs, stored_settings, stored_run, reported_stored, holding_stored}
 
 not_given : {X : Type 0} (o : Option X) → (Given o → ⊥) → o ≡ None
 not_given None f = refl
@@ -35,14 +30,14 @@ module _ {K : Type 0} (t : Time K) where
   arrival_fits (Some y) at f = elim (cases_Bool (t.before y at)) [ inl h ↦ h | inr h ↦ absurd (f h) ]
 
   module _ (l : Lengths) (m : Memory K) (shown : List K) (listed : Listed l) (sound : SoundOpen t m shown) where
-    long_runs : length (take m.run_count m.runs) ≡ m.run_count
-    long_runs = let f = sound.stored.few_runs in let e = sound.listed.runs in length-take-le m.run_count m.runs (omega arith)
+    long : length (take m.run_count m.runs) ≡ m.run_count
+    long = long_runs t m sound.listed.runs sound.stored
 
     run_is : (r : ℕ) → r < m.run_count → run_at t (take m.run_count m.runs) r ≡ run_at t m.runs r
     run_is r h = get_or-take m.run_count m.runs r _ h
 
     run_good : (r : ℕ) → r < m.run_count → RunStored t (length (take m.track_count m.tracks)) r (run_at t m.runs r)
-    run_good r h = let e = long_runs in let P : Run K → Type 0 = RunStored t (length (take m.track_count m.tracks)) r in subst P (run_is r h) (sound.stored.limits.runs.each r (omega arith))
+    run_good r h = let e = long in let P : Run K → Type 0 = RunStored t (length (take m.track_count m.tracks)) r in subst P (run_is r h) (sound.stored.limits.runs.each r (omega arith))
 
     changed : (r : ℕ) (x : Run K) → r < m.run_count → x.track ≡ (run_at t m.runs r).track → RunStored t (length (take m.track_count m.tracks)) r x → Ready t l m (with_runs m (set m.runs r x))
     changed r x h e good = record { listed = listed; records = sound.listed; stored = stored_run t m r x sound.listed.runs sound.stored h e good }
@@ -50,9 +45,9 @@ module _ {K : Type 0} (t : Time K) where
     pub report_ready : (v : ℕ) (at : K) (r : Result (Unit {0}) PlanFault) → Answers plan_number plan_place (report_rows t (register_of t m) v at) r → IfOk r (λ _. (v / 2 < length m.runs) × Ready t l m (report_memory t m v at))
     report_ready v at (Err f) a = tt
     report_ready v at (Ok x) a =
-        let e = long_runs in
+        let e = long in
         let few = sound.stored.few_runs in
-        let long = sound.listed.runs in
+        let whole = sound.listed.runs in
         let known : v < 2 * m.run_count = elim (cases_lt v (2 * length (take m.run_count m.runs))) [ inl h ↦ omega arith | inr h ↦ absurd (a.0 h) ] in
         let inside : v / 2 < m.run_count = omega arith in
         let sized = not_over at a.1.0 in
@@ -70,18 +65,18 @@ module _ {K : Type 0} (t : Time K) where
     pub hold_ready : (r : ℕ) (until : K) (a : Result (Unit {0}) PlanFault) → Answers plan_number plan_place (hold_rows t (register_of t m) r until) a → IfOk a (λ _. (r < length m.runs) × Ready t l m (hold_memory t m r (Some until)))
     hold_ready r until (Err f) a = tt
     hold_ready r until (Ok x) a =
-        let e = long_runs in
+        let e = long in
         let few = sound.stored.few_runs in
-        let long = sound.listed.runs in
+        let whole = sound.listed.runs in
         let inside : r < m.run_count = elim (cases_lt r (length (take m.run_count m.runs))) [ inl h ↦ omega arith | inr h ↦ absurd (a.0 h) ] in
         (omega arith, changed r (holding (run_at t m.runs r) (Some until)) inside refl (holding_stored t _ r (run_at t m.runs r) (Some until) (not_over until a.1.0) (run_good r inside)))
 
     pub release_ready : (plan slip_plan r : ℕ) (a : Result (Unit {0}) PlanFault) → Answers plan_number plan_place (release_rows t (register_of t m) plan slip_plan r) a → IfOk a (λ _. (r < length m.runs) × Ready t l m (hold_memory t m r None))
     release_ready plan slip_plan r (Err f) a = tt
     release_ready plan slip_plan r (Ok x) a =
-        let e = long_runs in
+        let e = long in
         let few = sound.stored.few_runs in
-        let long = sound.listed.runs in
+        let whole = sound.listed.runs in
         let inside : r < m.run_count = elim (cases_lt r (length (take m.run_count m.runs))) [ inl h ↦ omega arith | inr h ↦ absurd (a.1.0 h) ] in
         (omega arith, changed r (holding (run_at t m.runs r) None) inside refl (holding_stored t _ r (run_at t m.runs r) None tt (run_good r inside)))
 

@@ -24,6 +24,9 @@ flag_set xs p s q small h =
     ]
 
 module _ {K : Type 0} (t : Time K) where
+  pub long_runs : (m : Memory K) → length m.runs ≡ 512 → Stored t m → length (take m.run_count m.runs) ≡ m.run_count
+  long_runs m long stored = length-take-le m.run_count m.runs (omega (arith, stored.few_runs))
+
   pub stored_settings : (m : Memory K) (p s : ℕ) → s ≤ 1 → Stored t m → Stored t (with_settings m (set m.settings p s))
   stored_settings m p s small h = record {
     few_tracks = h.few_tracks;
@@ -48,7 +51,7 @@ module _ {K : Type 0} (t : Time K) where
     few = stored.few_runs
 
     long_was : length (take m.run_count m.runs) ≡ m.run_count
-    long_was = let f = few in length-take-le m.run_count m.runs (omega arith)
+    long_was = long_runs m long stored
 
     long_now : length (take m.run_count (set m.runs r x)) ≡ m.run_count
     long_now = let f = few in let e = length-set m.runs r x in length-take-le m.run_count (set m.runs r x) (omega arith)

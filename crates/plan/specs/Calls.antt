@@ -8,6 +8,7 @@ use Rattle.network.specs.Refusals.{Row, row, Answers}
 use Rattle.records.specs.Register.{Register, Memory, register_of}
 use Rattle.records.specs.Stored.{Stored}
 use Rattle.force.specs.Constraints.{arcs_in_force, in_force}
+use Rattle.force.specs.Work.{WorkLengths, WorkListed}
 use Rattle.rules.specs.declared.faults.PlanFault.{PlanFault}
 use Rattle.rules.specs.declared.faults.PlanFault.TheVariants as fault
 use Rattle.rules.specs.declared.switches.Switch.{Switch}
@@ -26,36 +27,19 @@ abbrev pub opened : Result Open Unopened → Result Open PlanFault
 opened (Ok x) = Ok x
 opened (Err u) = Err u.fault
 
--- whether a call was taken, whatever it answers
-abbrev pub done : {X E : Type 0} → Result X E → Result (Unit {0}) E
-done (Ok x) = Ok tt
-done (Err e) = Err e
-
--- How long the memories are that a reckoning writes: the times shown, the ring, and working memory.
+-- How long the memories are that a reckoning writes: the times, the ring, and working memory.
 pub record Lengths : Type 0 where
   pub times : ℕ
   pub ring : ℕ
-  pub counts : ℕ
-  pub sums : ℕ
-  pub befores : ℕ
-  pub floors : ℕ
-  pub arcs : ℕ
-  pub tables : ℕ
-  pub marks : ℕ
+  pub work : WorkLengths
 
 pub record Listed (l : Lengths) : Type 0 where
   pub times : l.times ≡ 1024
   pub ring : l.ring ≡ 1024
-  pub counts : l.counts ≡ 512
-  pub sums : l.sums ≡ 512
-  pub befores : l.befores ≡ 512
-  pub floors : l.floors ≡ 1024
-  pub arcs : l.arcs ≡ 9728
-  pub tables : l.tables ≡ 2048
-  pub marks : l.marks ≡ 1050624
+  pub work : WorkListed l.work
 
-abbrev pub lengths : ℕ → ℕ → ℕ → ℕ → ℕ → ℕ → ℕ → ℕ → ℕ → Lengths
-lengths t r c s b f a u m = record { times = t; ring = r; counts = c; sums = s; befores = b; floors = f; arcs = a; tables = u; marks = m }
+abbrev pub lengths : ℕ → ℕ → WorkLengths → Lengths
+lengths times ring work = record { times = times; ring = ring; work = work }
 
 abbrev pub length_rows : Lengths → List Row
 length_rows l = row 1 0 (Listed l → ⊥) ∷ []

@@ -3,29 +3,21 @@ use Rattle.std.specs.Prelude.{ℕ, List}
 use Rattle.records.specs.declared.Track.{Track}
 use Rattle.records.specs.declared.Run.{Run}
 use Rattle.records.specs.declared.Connection.{Connection}
+use Rattle.records.specs.Lent.{Lists}
 use Rattle.records.specs.Register.{Memory}
-use Rattle.plan.specs.declared.states.Draft.{Draft}
-use Rattle.plan.specs.declared.states.Open.{Open}
+use Rattle.plan.specs.declared.states.Numbers.{Numbers}
 
 module _ {K : Type 0} where
-  abbrev pub draft_memory : Draft → List (Track K) → List (Run K) → List (Connection K) → List ℕ → Memory K
-  draft_memory d tracks runs connections settings = record {
-    tracks = tracks;
-    runs = runs;
-    connections = connections;
-    settings = settings;
-    track_count = d.tracks;
-    run_count = d.runs;
-    connection_count = d.connections;
+  abbrev pub memory : Numbers → Lists K → Memory K
+  memory n l = record {
+    tracks = l.tracks;
+    runs = l.runs;
+    connections = l.connections;
+    settings = l.settings;
+    track_count = n.tracks;
+    run_count = n.runs;
+    connection_count = n.connections;
   }
 
-  abbrev pub open_memory : Open → List (Track K) → List (Run K) → List (Connection K) → List ℕ → Memory K
-  open_memory o tracks runs connections settings = record {
-    tracks = tracks;
-    runs = runs;
-    connections = connections;
-    settings = settings;
-    track_count = o.tracks;
-    run_count = o.runs;
-    connection_count = o.connections;
-  }
+  abbrev pub lists : List (Track K) → List (Run K) → List (Connection K) → List ℕ → Lists K
+  lists tracks runs connections settings = record { tracks = tracks; runs = runs; connections = connections; settings = settings }

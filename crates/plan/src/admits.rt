@@ -1,267 +1,137 @@
 //! What the calls on an open plan refuse before they reckon.
-ghost use Rattle.std.specs.Prelude.{◌≡◌, ℕ, ◌/◌, ◌<◌, ◌≤◌, ◌++◌, length, IfOk, Some, None, Decides, OnOk};
+ghost use Rattle.std.specs.Prelude.{◌≡◌, ℕ, ◌/◌, ◌<◌, length, IfOk, Some, None, OnOk};
 ghost use Rattle.network.specs.Refusals.{Answers};
-ghost use Rattle.records.specs.Register.{register_of};
-ghost use Rattle.records.specs.Stored.{Stored};
+ghost use Rattle.records.specs.Lent.{lists_in, lists_mut};
+ghost use Rattle.records.specs.Register.{seen, front, register_of};
+ghost use Rattle.force.specs.Work.{work_lengths};
 ghost use Rattle.rules.specs.Faults.{plan_number, plan_place};
-ghost use Rattle.rules.specs.Rows.{setting_place, RecordsListed, SoundOpen, open_rows, report_rows, hold_rows, release_rows, turning_rows};
-ghost use Rattle.plan.specs.States.{open_memory};
+ghost use Rattle.rules.specs.Rows.{setting_place, SoundOpen, open_rows};
+ghost use Rattle.plan.specs.States.{memory};
 ghost use Rattle.plan.specs.Steps.{report_memory, hold_memory, switch_memory};
 ghost use Rattle.plan.specs.Calls.{Listed, lengths, length_rows, open_call_rows, report_call_rows, hold_call_rows, release_call_rows, turning_call_rows, Ready};
 
-use crate::Open;
-use crate::changes::open_view;
+use crate::states::Numbers;
+use force::Work;
 use kinds::Kind;
-use records::{Connection, Run, Track, entered};
+use records::{Records, RecordsMut, View, entered};
 use rules::{
     PlanFault, Switch, check_hold, check_open, check_release, check_report, check_turning, place_of,
 };
 
-// Whether each memory that a reckoning writes has its listed length.
-fn work_listed(
-    times: usize,
+/// What every call refuses that reckons: a memory that is written and has not its listed length.
+pub(crate) fn check_work<K: Kind>(
+    written: usize,
     ring: usize,
-    counts: usize,
-    sums: usize,
-    befores: usize,
-    floors: usize,
-    arcs: usize,
-    tables: usize,
-    marks: usize,
-) -> bool
-    ensures { Decides result (Listed (lengths times ring counts sums befores floors arcs tables marks)) }
-{
-    times == 1_024
-        && ring == 1_024
-        && counts == 512
-        && sums == 512
-        && befores == 512
-        && floors == 1_024
-        && arcs == 9_728
-        && tables == 2_048
-        && marks == 1_050_624
-}
-
-pub(crate) fn check_work(
-    times: usize,
-    ring: usize,
-    counts: usize,
-    sums: usize,
-    befores: usize,
-    floors: usize,
-    arcs: usize,
-    tables: usize,
-    marks: usize,
+    work: &Work<'_, K>,
 ) -> Result<(), PlanFault>
-    ensures rows { Answers plan_number plan_place (length_rows (lengths times ring counts sums befores floors arcs tables marks)) result }
-    ensures listed { OnOk result (Listed (lengths times ring counts sums befores floors arcs tables marks)) }
+    ensures rows { Answers plan_number plan_place (length_rows (lengths written ring (work_lengths work.now))) result }
+    ensures listed { OnOk result (Listed (lengths written ring (work_lengths work.now))) }
 {
-    if !work_listed(
-        times, ring, counts, sums, befores, floors, arcs, tables, marks,
-    ) {
+    if written != 1_024 || ring != 1_024 || !work.is_listed() {
         return Err(PlanFault::Length);
     }
     Ok(())
 }
 
-// What every call refuses that reckons an open plan.
-fn admit<K: Kind>(
-    plan: &Open,
-    tracks: &[Track<K>],
-    runs: &[Run<K>],
-    connections: &[Connection<K>],
-    settings: &[u8],
+/// What every call on an open plan refuses. Taken, what is entered of it.
+pub(crate) fn admit_shown<'v, K: Kind>(
+    numbers: Numbers,
+    records: Records<'v, K>,
+    times: &[K],
+) -> Result<View<'v, K>, PlanFault>
+    ensures rows { Answers plan_number plan_place (open_rows K.Kind.time (memory numbers (lists_in records.entry)) times.now) result }
+    ensures sound { let m = memory numbers (lists_in records.entry) in IfOk result (λ v. (seen v ≡ front m) × SoundOpen K.Kind.time m times.now) }
+{
+    let v = numbers.view(records);
+    check_open(v, times)?;
+    Ok(entered(v))
+}
+
+// What every call refuses that reckons an open plan, where `written` is the length of the memory that the times are to be written
+// to. Taken, what is entered of the plan.
+fn admit<'v, K: Kind>(
+    numbers: Numbers,
+    records: &'v RecordsMut<'_, K>,
     times: &[K],
     written: usize,
     ring: usize,
-    counts: usize,
-    sums: usize,
-    befores: usize,
-    floors: usize,
-    arcs: usize,
-    tables: usize,
-    marks: usize,
-) -> Result<(), PlanFault>
-    ensures rows { Answers plan_number plan_place (open_call_rows K.Kind.time (lengths written ring counts sums befores floors arcs tables marks) (open_memory plan.now tracks.now runs.now connections.now settings.now) times.now) result }
-    ensures sound { OnOk result (Listed (lengths written ring counts sums befores floors arcs tables marks) × SoundOpen K.Kind.time (open_memory plan.now tracks.now runs.now connections.now settings.now) times.now) }
+    work: &Work<'_, K>,
+) -> Result<View<'v, K>, PlanFault>
+    ensures rows { Answers plan_number plan_place (open_call_rows K.Kind.time (lengths written ring (work_lengths work.now)) (memory numbers (lists_mut records.now)) times.now) result }
+    ensures listed { OnOk result (Listed (lengths written ring (work_lengths work.now))) }
+    ensures sound { let m = memory numbers (lists_mut records.now) in IfOk result (λ v. (seen v ≡ front m) × SoundOpen K.Kind.time m times.now) }
 {
-    check_work(
-        written, ring, counts, sums, befores, floors, arcs, tables, marks,
-    )?;
-    check_open(open_view(plan, tracks, runs, connections, settings), times)
+    check_work(written, ring, work)?;
+    admit_shown(numbers, records.lent(), times)
 }
 
 /// What a report refuses before it reckons.
 pub(crate) fn admit_report<K: Kind>(
-    plan: &Open,
-    tracks: &[Track<K>],
-    runs: &[Run<K>],
-    connections: &[Connection<K>],
-    settings: &[u8],
+    numbers: Numbers,
+    records: &RecordsMut<'_, K>,
     times: &[K],
     ring: usize,
-    counts: usize,
-    sums: usize,
-    befores: usize,
-    floors: usize,
-    arcs: usize,
-    tables: usize,
-    marks: usize,
+    work: &Work<'_, K>,
     event: u16,
     at: K,
 ) -> Result<(), PlanFault>
-    ensures rows { Answers plan_number plan_place (report_call_rows K.Kind.time (lengths (length times.now) ring counts sums befores floors arcs tables marks) (open_memory plan.now tracks.now runs.now connections.now settings.now) times.now event at) result }
-    ensures ready { OnOk result ((event / 2 < length runs.now) × Ready K.Kind.time (lengths (length times.now) ring counts sums befores floors arcs tables marks) (open_memory plan.now tracks.now runs.now connections.now settings.now) (report_memory K.Kind.time (open_memory plan.now tracks.now runs.now connections.now settings.now) event at)) }
+    ensures rows { Answers plan_number plan_place (report_call_rows K.Kind.time (lengths (length times.now) ring (work_lengths work.now)) (memory numbers (lists_mut records.now)) times.now event at) result }
+    ensures ready { let m = memory numbers (lists_mut records.now) in OnOk result ((event / 2 < length records.now.runs.now) × Ready K.Kind.time (lengths (length times.now) ring (work_lengths work.now)) m (report_memory K.Kind.time m event at)) }
 {
-    admit(
-        plan,
-        tracks,
-        runs,
-        connections,
-        settings,
-        times,
-        times.len(),
-        ring,
-        counts,
-        sums,
-        befores,
-        floors,
-        arcs,
-        tables,
-        marks,
-    )?;
-    let v = open_view(plan, tracks, runs, connections, settings);
-    check_report(entered(v), event, at)
+    let v = admit(numbers, records, times, times.len(), ring, work)?;
+    check_report(v, event, at)
 }
 
 /// What a hold refuses before it reckons.
 pub(crate) fn admit_hold<K: Kind>(
-    plan: &Open,
-    tracks: &[Track<K>],
-    runs: &[Run<K>],
-    connections: &[Connection<K>],
-    settings: &[u8],
+    numbers: Numbers,
+    records: &RecordsMut<'_, K>,
     times: &[K],
     ring: usize,
-    counts: usize,
-    sums: usize,
-    befores: usize,
-    floors: usize,
-    arcs: usize,
-    tables: usize,
-    marks: usize,
+    work: &Work<'_, K>,
     run: u16,
     until: K,
 ) -> Result<(), PlanFault>
-    ensures rows { Answers plan_number plan_place (hold_call_rows K.Kind.time (lengths (length times.now) ring counts sums befores floors arcs tables marks) (open_memory plan.now tracks.now runs.now connections.now settings.now) times.now run until) result }
-    ensures ready { OnOk result ((run < length runs.now) × Ready K.Kind.time (lengths (length times.now) ring counts sums befores floors arcs tables marks) (open_memory plan.now tracks.now runs.now connections.now settings.now) (hold_memory K.Kind.time (open_memory plan.now tracks.now runs.now connections.now settings.now) run (Some until))) }
+    ensures rows { Answers plan_number plan_place (hold_call_rows K.Kind.time (lengths (length times.now) ring (work_lengths work.now)) (memory numbers (lists_mut records.now)) times.now run until) result }
+    ensures ready { let m = memory numbers (lists_mut records.now) in OnOk result ((run < length records.now.runs.now) × Ready K.Kind.time (lengths (length times.now) ring (work_lengths work.now)) m (hold_memory K.Kind.time m run (Some until))) }
 {
-    admit(
-        plan,
-        tracks,
-        runs,
-        connections,
-        settings,
-        times,
-        times.len(),
-        ring,
-        counts,
-        sums,
-        befores,
-        floors,
-        arcs,
-        tables,
-        marks,
-    )?;
-    let v = open_view(plan, tracks, runs, connections, settings);
-    check_hold(entered(v), run, until)
+    let v = admit(numbers, records, times, times.len(), ring, work)?;
+    check_hold(v, run, until)
 }
 
 /// What a release refuses before it reckons.
 pub(crate) fn admit_release<K: Kind>(
-    plan: &Open,
-    tracks: &[Track<K>],
-    runs: &[Run<K>],
-    connections: &[Connection<K>],
-    settings: &[u8],
+    numbers: Numbers,
+    records: &RecordsMut<'_, K>,
     times: &[K],
     ring: usize,
-    counts: usize,
-    sums: usize,
-    befores: usize,
-    floors: usize,
-    arcs: usize,
-    tables: usize,
-    marks: usize,
+    work: &Work<'_, K>,
     slip_plan: u32,
     slip_run: u16,
 ) -> Result<(), PlanFault>
-    ensures rows { Answers plan_number plan_place (release_call_rows K.Kind.time (lengths (length times.now) ring counts sums befores floors arcs tables marks) (open_memory plan.now tracks.now runs.now connections.now settings.now) times.now plan.now.number slip_plan slip_run) result }
-    ensures ready { OnOk result ((slip_run < length runs.now) × Ready K.Kind.time (lengths (length times.now) ring counts sums befores floors arcs tables marks) (open_memory plan.now tracks.now runs.now connections.now settings.now) (hold_memory K.Kind.time (open_memory plan.now tracks.now runs.now connections.now settings.now) slip_run None)) }
+    ensures rows { Answers plan_number plan_place (release_call_rows K.Kind.time (lengths (length times.now) ring (work_lengths work.now)) (memory numbers (lists_mut records.now)) times.now numbers.number slip_plan slip_run) result }
+    ensures ready { let m = memory numbers (lists_mut records.now) in OnOk result ((slip_run < length records.now.runs.now) × Ready K.Kind.time (lengths (length times.now) ring (work_lengths work.now)) m (hold_memory K.Kind.time m slip_run None)) }
 {
-    admit(
-        plan,
-        tracks,
-        runs,
-        connections,
-        settings,
-        times,
-        times.len(),
-        ring,
-        counts,
-        sums,
-        befores,
-        floors,
-        arcs,
-        tables,
-        marks,
-    )?;
-    let v = open_view(plan, tracks, runs, connections, settings);
-    check_release(entered(v), plan.number, slip_plan, slip_run)
+    let v = admit(numbers, records, times, times.len(), ring, work)?;
+    check_release(v, numbers.number, slip_plan, slip_run)
 }
 
 /// What turning a setting refuses before it reckons; taken, the place of its byte. `written` is the length of the memory that the
 /// times are to be written to.
 pub(crate) fn admit_turning<K: Kind>(
-    plan: &Open,
-    tracks: &[Track<K>],
-    runs: &[Run<K>],
-    connections: &[Connection<K>],
-    settings: &[u8],
+    numbers: Numbers,
+    records: &RecordsMut<'_, K>,
     times: &[K],
     written: usize,
     ring: usize,
-    counts: usize,
-    sums: usize,
-    befores: usize,
-    floors: usize,
-    arcs: usize,
-    tables: usize,
-    marks: usize,
+    work: &Work<'_, K>,
     switch: Switch,
     setting: u8,
 ) -> Result<usize, PlanFault>
-    ensures rows { Answers plan_number plan_place (turning_call_rows K.Kind.time (lengths written ring counts sums befores floors arcs tables marks) (open_memory plan.now tracks.now runs.now connections.now settings.now) times.now switch setting) result }
-    ensures ready { IfOk result (λ p. (p ≡ setting_place K.Kind.time (register_of K.Kind.time (open_memory plan.now tracks.now runs.now connections.now settings.now)) switch) × (p < length settings.now) × Ready K.Kind.time (lengths written ring counts sums befores floors arcs tables marks) (open_memory plan.now tracks.now runs.now connections.now settings.now) (switch_memory K.Kind.time (open_memory plan.now tracks.now runs.now connections.now settings.now) switch setting)) }
+    ensures rows { Answers plan_number plan_place (turning_call_rows K.Kind.time (lengths written ring (work_lengths work.now)) (memory numbers (lists_mut records.now)) times.now switch setting) result }
+    ensures ready { let m = memory numbers (lists_mut records.now) in IfOk result (λ p. (p ≡ setting_place K.Kind.time (register_of K.Kind.time m) switch) × (p < length records.now.settings.now) × Ready K.Kind.time (lengths written ring (work_lengths work.now)) m (switch_memory K.Kind.time m switch setting)) }
 {
-    admit(
-        plan,
-        tracks,
-        runs,
-        connections,
-        settings,
-        times,
-        written,
-        ring,
-        counts,
-        sums,
-        befores,
-        floors,
-        arcs,
-        tables,
-        marks,
-    )?;
-    let v = entered(open_view(plan, tracks, runs, connections, settings));
+    let v = admit(numbers, records, times, written, ring, work)?;
     check_turning(v, switch, setting)?;
     Ok(place_of(v, switch))
 }

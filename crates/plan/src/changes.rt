@@ -1,90 +1,73 @@
 //! One change to what is stored, and the reckoning of what is then in force.
-ghost use Rattle.std.specs.Prelude.{◌≡◌, ℕ, ◌<◌, ◌≤◌, length, MatchResult, slice_set};
-ghost use Rattle.records.specs.Register.{seen, register_of};
+ghost use Rattle.std.specs.Prelude.{◌≡◌, ℕ, ◌<◌, [], length, MatchResult, slice_set};
+ghost use Rattle.records.specs.Lent.{lists_in, lists_mut, SameRecords};
+ghost use Rattle.records.specs.Register.{register_of};
 ghost use Rattle.records.specs.Stored.{Stored};
 ghost use Rattle.rules.specs.Rows.{RecordsListed};
-ghost use Rattle.force.specs.Reckoned.{TimesAfter, RingAfter};
-ghost use Rattle.plan.specs.States.{open_memory};
-ghost use Rattle.plan.specs.Calls.{Listed, lengths};
+ghost use Rattle.force.specs.Work.{work_lengths, SameWork};
+ghost use Rattle.plan.specs.States.{memory};
+ghost use Rattle.plan.specs.Steps.{with_runs, with_settings};
+ghost use Rattle.plan.specs.Calls.{Listed, lengths, Reckons};
 
-use crate::Open;
-use force::reckon_plan;
+use crate::states::Numbers;
+use force::{Work, reckon_within};
 use kinds::Kind;
-use network::{Arc, NetworkFault};
-use records::{Connection, Run, Track, View, run_of};
+use records::{Records, RecordsMut, Run};
+use rules::PlanFault;
 
-/// The memories of an open plan, to be read.
-pub(crate) fn open_view<'v, K: Kind>(
-    plan: &Open,
-    tracks: &'v [Track<K>],
-    runs: &'v [Run<K>],
-    connections: &'v [Connection<K>],
-    settings: &'v [u8],
-) -> View<'v, K>
-    ensures { seen result ≡ open_memory plan.now tracks.now runs.now connections.now settings.now }
+/// Reckons what the records put in force.
+pub(crate) fn put_in_force<K: Kind>(
+    numbers: Numbers,
+    records: Records<'_, K>,
+    times: &mut [K],
+    ring: &mut [u16],
+    work: &mut Work<'_, K>,
+) -> Result<(), PlanFault>
+    requires records { RecordsListed (memory numbers (lists_in records)) }
+    requires listed { Listed (lengths (length times.old) (length ring.old) (work_lengths work.old)) }
+    requires stored { Stored K.Kind.time (memory numbers (lists_in records)) }
+    ensures reckons { Reckons K.Kind.time [] (register_of K.Kind.time (memory numbers (lists_in records.entry))) times.old times.new ring.old ring.new result }
+    ensures work { SameWork work.old work.new }
 {
-    View {
-        tracks,
-        runs,
-        connections,
-        settings,
-        track_count: plan.tracks as usize,
-        run_count: plan.runs as usize,
-        connection_count: plan.connections as usize,
-    }
+    reckon_within(numbers.view(records), times, ring, work)?;
+    Ok(())
 }
 
-fn put_run<K: Kind>(runs: &mut [Run<K>], r: usize, run: Run<K>)
-    requires { r < length runs.old }
-    ensures { runs.new ≡ slice_set runs.old r run }
+/// Puts a record in the place of another.
+// Stays: beside all that its callers know, the bound of a plain index is not found.
+pub(crate) fn put<T: Copy>(items: &mut [T], i: usize, item: T)
+    requires { i < length items.old }
+    ensures { items.new ≡ slice_set items.old i item }
 {
-    runs[r] = run;
+    items[i] = item;
 }
 
 /// Puts a run in the place of another and reckons. Refused, the other is back.
 pub(crate) fn replace_run<K: Kind>(
-    plan: &Open,
-    tracks: &[Track<K>],
-    runs: &mut [Run<K>],
-    connections: &[Connection<K>],
-    settings: &[u8],
+    numbers: Numbers,
+    records: &mut RecordsMut<'_, K>,
     times: &mut [K],
     ring: &mut [u16],
-    counts: &mut [u16],
-    sums: &mut [u32],
-    befores: &mut [u16],
-    floors: &mut [K],
-    arcs: &mut [Arc<K>],
-    tables: &mut [K],
-    marks: &mut [u16],
+    work: &mut Work<'_, K>,
     r: usize,
     run: Run<K>,
-) -> Result<(), NetworkFault>
-    requires inside { r < length runs.old }
-    requires records { RecordsListed (open_memory plan.now tracks.now runs.old connections.now settings.now) }
-    requires listed { Listed (lengths (length times.old) (length ring.old) (length counts.old) (length sums.old) (length befores.old) (length floors.old) (length arcs.old) (length tables.old) (length marks.old)) }
-    requires stored { Stored K.Kind.time (open_memory plan.now tracks.now (slice_set runs.old r run) connections.now settings.now) }
-    ensures times { TimesAfter K.Kind.time (register_of K.Kind.time (open_memory plan.now tracks.now (slice_set runs.old r run) connections.now settings.now)) times.old times.new result }
-    ensures ring { RingAfter K.Kind.time (register_of K.Kind.time (open_memory plan.now tracks.now (slice_set runs.old r run) connections.now settings.now)) ring.old ring.new result }
-    ensures runs { MatchResult result (λ _. runs.new ≡ slice_set runs.old r run) (λ _. runs.new ≡ runs.old) }
+) -> Result<(), PlanFault>
+    requires inside { r < length records.old.runs.now }
+    requires records { RecordsListed (memory numbers (lists_mut records.old)) }
+    requires listed { Listed (lengths (length times.old) (length ring.old) (work_lengths work.old)) }
+    requires stored { Stored K.Kind.time (with_runs (memory numbers (lists_mut records.old)) (slice_set records.old.runs.now r run)) }
+    ensures reckons { Reckons K.Kind.time [] (register_of K.Kind.time (with_runs (memory numbers (lists_mut records.old)) (slice_set records.old.runs.now r run))) times.old times.new ring.old ring.new result }
+    ensures records { MatchResult result (λ _. memory numbers (lists_mut records.new) ≡ with_runs (memory numbers (lists_mut records.old)) (slice_set records.old.runs.now r run)) (λ _. lists_mut records.new ≡ lists_mut records.old) }
+    ensures lent { SameRecords records.old records.new }
+    ensures work { SameWork work.old work.new }
 {
-    let old = run_of(runs, r);
-    put_run(runs, r, run);
-    match reckon_plan(
-        open_view(plan, tracks, runs, connections, settings),
-        counts,
-        sums,
-        befores,
-        floors,
-        arcs,
-        tables,
-        marks,
-        times,
-        ring,
-    ) {
+    let old = records.runs[r];
+    put(records.runs, r, run);
+    match put_in_force(numbers, records.lent(), times, ring, work) {
         Ok(()) => Ok(()),
         Err(fault) => {
-            put_run(runs, r, old);
+            // By hand, since a guard would put a taken run back too.
+            put(records.runs, r, old);
             Err(fault)
         }
     }
@@ -92,48 +75,30 @@ pub(crate) fn replace_run<K: Kind>(
 
 /// Writes a setting and reckons. Refused, the old one is back.
 pub(crate) fn replace_setting<K: Kind>(
-    plan: &Open,
-    tracks: &[Track<K>],
-    runs: &[Run<K>],
-    connections: &[Connection<K>],
-    settings: &mut [u8],
+    numbers: Numbers,
+    records: &mut RecordsMut<'_, K>,
     times: &mut [K],
     ring: &mut [u16],
-    counts: &mut [u16],
-    sums: &mut [u32],
-    befores: &mut [u16],
-    floors: &mut [K],
-    arcs: &mut [Arc<K>],
-    tables: &mut [K],
-    marks: &mut [u16],
+    work: &mut Work<'_, K>,
     place: usize,
     setting: u8,
-) -> Result<(), NetworkFault>
-    requires inside { place < length settings.old }
-    requires records { RecordsListed (open_memory plan.now tracks.now runs.now connections.now settings.old) }
-    requires listed { Listed (lengths (length times.old) (length ring.old) (length counts.old) (length sums.old) (length befores.old) (length floors.old) (length arcs.old) (length tables.old) (length marks.old)) }
-    requires stored { Stored K.Kind.time (open_memory plan.now tracks.now runs.now connections.now (slice_set settings.old place setting)) }
-    ensures times { TimesAfter K.Kind.time (register_of K.Kind.time (open_memory plan.now tracks.now runs.now connections.now (slice_set settings.old place setting))) times.old times.new result }
-    ensures ring { RingAfter K.Kind.time (register_of K.Kind.time (open_memory plan.now tracks.now runs.now connections.now (slice_set settings.old place setting))) ring.old ring.new result }
-    ensures settings { MatchResult result (λ _. settings.new ≡ slice_set settings.old place setting) (λ _. settings.new ≡ settings.old) }
+) -> Result<(), PlanFault>
+    requires inside { place < length records.old.settings.now }
+    requires records { RecordsListed (memory numbers (lists_mut records.old)) }
+    requires listed { Listed (lengths (length times.old) (length ring.old) (work_lengths work.old)) }
+    requires stored { Stored K.Kind.time (with_settings (memory numbers (lists_mut records.old)) (slice_set records.old.settings.now place setting)) }
+    ensures reckons { Reckons K.Kind.time [] (register_of K.Kind.time (with_settings (memory numbers (lists_mut records.old)) (slice_set records.old.settings.now place setting))) times.old times.new ring.old ring.new result }
+    ensures records { MatchResult result (λ _. memory numbers (lists_mut records.new) ≡ with_settings (memory numbers (lists_mut records.old)) (slice_set records.old.settings.now place setting)) (λ _. lists_mut records.new ≡ lists_mut records.old) }
+    ensures lent { SameRecords records.old records.new }
+    ensures work { SameWork work.old work.new }
 {
-    let old = settings[place];
-    settings[place] = setting;
-    match reckon_plan(
-        open_view(plan, tracks, runs, connections, settings),
-        counts,
-        sums,
-        befores,
-        floors,
-        arcs,
-        tables,
-        marks,
-        times,
-        ring,
-    ) {
+    let old = records.settings[place];
+    records.settings[place] = setting;
+    match put_in_force(numbers, records.lent(), times, ring, work) {
         Ok(()) => Ok(()),
         Err(fault) => {
-            settings[place] = old;
+            // By hand, since a guard would put a taken setting back too.
+            records.settings[place] = old;
             Err(fault)
         }
     }

@@ -1,315 +1,156 @@
 //! The calls of a controller on an open plan.
-ghost use Rattle.std.specs.Prelude.{◌≡◌, ℕ, ◌/◌, ◌%◌, ◌<◌, ◌≤◌, length, IfOk, IfErr, Some, None, MatchResult, slice_set};
-ghost use Rattle.records.specs.Records.{run_at};
+ghost use Rattle.std.specs.Prelude.{◌≡◌, ℕ, ◌%◌, length, IfOk, IfErr, Some, None, MatchResult};
+ghost use Rattle.records.specs.Lent.{lists_mut, SameRecords};
 ghost use Rattle.records.specs.Register.{register_of};
-ghost use Rattle.plan.specs.States.{open_memory};
-ghost use Rattle.plan.specs.Steps.{reported, report_memory, holding, hold_memory, switch_memory};
-ghost use Rattle.rules.specs.Rows.{setting_place};
+ghost use Rattle.force.specs.Work.{work_lengths, SameWork};
 ghost use Rattle.rules.specs.declared.switches.Switch.TheVariants as named;
+ghost use Rattle.plan.specs.States.{memory};
+ghost use Rattle.plan.specs.Steps.{reported, report_memory, holding, hold_memory, switch_memory};
 ghost use Rattle.plan.specs.Calls.{lengths, report_call_rows, hold_call_rows, release_call_rows, turning_call_rows, Reckons, released};
 
 use crate::admits::{admit_hold, admit_release, admit_report, admit_turning};
 use crate::changes::{replace_run, replace_setting};
 use crate::{Open, Slip, Unreleased};
+use force::Work;
 use kinds::Kind;
-use network::Arc;
-use records::{Connection, Run, Track, run_of};
+use records::{RecordsMut, Run};
 use rules::{PlanFault, Switch};
 
-// The run with a report of its departure (side 0) or its arrival.
-fn with_report<K: Kind>(run: Run<K>, side: u16, at: K) -> Run<K>
-    ensures { result ≡ reported run side at }
+// The run with a report of one of its events: an even one is its departure, an odd one its arrival.
+fn with_report<K: Kind>(run: Run<K>, event: u16, at: K) -> Run<K>
+    ensures { result ≡ reported run (event % 2) at }
 {
-    let mut run = run;
-    if side == 0 {
-        run.departed = Some(at);
+    if event % 2 == 0 {
+        Run {
+            departed: Some(at),
+            ..run
+        }
     } else {
-        run.arrived = Some(at);
+        Run {
+            arrived: Some(at),
+            ..run
+        }
     }
-    run
 }
 
 // The run with another hold.
 fn with_hold<K: Kind>(run: Run<K>, hold: Option<K>) -> Run<K>
     ensures { result ≡ holding run hold }
 {
-    let mut run = run;
-    run.hold = hold;
-    run
+    Run { hold, ..run }
 }
 
 impl Open {
     /// Reports that an event came at a time, and reckons.
     pub fn report<K: Kind>(
         &self,
-        tracks: &[Track<K>],
-        runs: &mut [Run<K>],
-        connections: &[Connection<K>],
-        settings: &[u8],
+        records: &mut RecordsMut<'_, K>,
         times: &mut [K],
         ring: &mut [u16],
-        counts: &mut [u16],
-        sums: &mut [u32],
-        befores: &mut [u16],
-        floors: &mut [K],
-        arcs: &mut [Arc<K>],
-        tables: &mut [K],
-        marks: &mut [u16],
+        work: &mut Work<'_, K>,
         event: u16,
         at: K,
     ) -> Result<(), PlanFault>
-        ensures reckons { Reckons K.Kind.time (report_call_rows K.Kind.time (lengths (length times.old) (length ring.old) (length counts.old) (length sums.old) (length befores.old) (length floors.old) (length arcs.old) (length tables.old) (length marks.old)) (open_memory self.now tracks.now runs.old connections.now settings.now) times.old event at) (register_of K.Kind.time (report_memory K.Kind.time (open_memory self.now tracks.now runs.old connections.now settings.now) event at)) times.old times.new ring.old ring.new result }
-        ensures runs { MatchResult result (λ _. runs.new ≡ slice_set runs.old (event / 2) (reported (run_at K.Kind.time runs.old (event / 2)) (event % 2) at)) (λ _. runs.new ≡ runs.old) }
+        ensures reckons { let m = memory self.now.numbers (lists_mut records.old) in Reckons K.Kind.time (report_call_rows K.Kind.time (lengths (length times.old) (length ring.old) (work_lengths work.old)) m times.old event at) (register_of K.Kind.time (report_memory K.Kind.time m event at)) times.old times.new ring.old ring.new result }
+        ensures records { MatchResult result (λ _. memory self.now.numbers (lists_mut records.new) ≡ report_memory K.Kind.time (memory self.now.numbers (lists_mut records.old)) event at) (λ _. lists_mut records.new ≡ lists_mut records.old) }
+        ensures lent { SameRecords records.old records.new }
+        ensures work { SameWork work.old work.new }
     {
-        admit_report(
-            self,
-            tracks,
-            runs,
-            connections,
-            settings,
-            times,
-            ring.len(),
-            counts.len(),
-            sums.len(),
-            befores.len(),
-            floors.len(),
-            arcs.len(),
-            tables.len(),
-            marks.len(),
-            event,
-            at,
-        )?;
+        admit_report(self.numbers, records, times, ring.len(), work, event, at)?;
         let r = event as usize / 2;
-        let marked = with_report(run_of(runs, r), event % 2, at);
-        replace_run(
-            self,
-            tracks,
-            runs,
-            connections,
-            settings,
-            times,
-            ring,
-            counts,
-            sums,
-            befores,
-            floors,
-            arcs,
-            tables,
-            marks,
-            r,
-            marked,
-        )?;
-        Ok(())
+        let run = with_report(records.runs[r], event, at);
+        replace_run(self.numbers, records, times, ring, work, r, run)
     }
 
     // Writes one setting and reckons.
     fn turn<K: Kind>(
         &self,
-        tracks: &[Track<K>],
-        runs: &[Run<K>],
-        connections: &[Connection<K>],
-        settings: &mut [u8],
+        records: &mut RecordsMut<'_, K>,
         times: &mut [K],
         ring: &mut [u16],
-        counts: &mut [u16],
-        sums: &mut [u32],
-        befores: &mut [u16],
-        floors: &mut [K],
-        arcs: &mut [Arc<K>],
-        tables: &mut [K],
-        marks: &mut [u16],
+        work: &mut Work<'_, K>,
         switch: Switch,
         setting: u8,
     ) -> Result<(), PlanFault>
-        ensures reckons { Reckons K.Kind.time (turning_call_rows K.Kind.time (lengths (length times.old) (length ring.old) (length counts.old) (length sums.old) (length befores.old) (length floors.old) (length arcs.old) (length tables.old) (length marks.old)) (open_memory self.now tracks.now runs.now connections.now settings.old) times.old switch setting) (register_of K.Kind.time (switch_memory K.Kind.time (open_memory self.now tracks.now runs.now connections.now settings.old) switch setting)) times.old times.new ring.old ring.new result }
-        ensures settings { MatchResult result (λ _. settings.new ≡ slice_set settings.old (setting_place K.Kind.time (register_of K.Kind.time (open_memory self.now tracks.now runs.now connections.now settings.old)) switch) setting) (λ _. settings.new ≡ settings.old) }
+        ensures reckons { let m = memory self.now.numbers (lists_mut records.old) in Reckons K.Kind.time (turning_call_rows K.Kind.time (lengths (length times.old) (length ring.old) (work_lengths work.old)) m times.old switch setting) (register_of K.Kind.time (switch_memory K.Kind.time m switch setting)) times.old times.new ring.old ring.new result }
+        ensures records { MatchResult result (λ _. memory self.now.numbers (lists_mut records.new) ≡ switch_memory K.Kind.time (memory self.now.numbers (lists_mut records.old)) switch setting) (λ _. lists_mut records.new ≡ lists_mut records.old) }
+        ensures lent { SameRecords records.old records.new }
+        ensures work { SameWork work.old work.new }
     {
         let place = admit_turning(
-            self,
-            tracks,
-            runs,
-            connections,
-            settings,
+            self.numbers,
+            records,
             times,
             times.len(),
             ring.len(),
-            counts.len(),
-            sums.len(),
-            befores.len(),
-            floors.len(),
-            arcs.len(),
-            tables.len(),
-            marks.len(),
+            work,
             switch,
             setting,
         )?;
-        replace_setting(
-            self,
-            tracks,
-            runs,
-            connections,
-            settings,
-            times,
-            ring,
-            counts,
-            sums,
-            befores,
-            floors,
-            arcs,
-            tables,
-            marks,
-            place,
-            setting,
-        )?;
-        Ok(())
+        replace_setting(self.numbers, records, times, ring, work, place, setting)
     }
 
     /// Sets which of two runs on a track goes ahead, and reckons.
     pub fn order<K: Kind>(
         &self,
-        tracks: &[Track<K>],
-        runs: &[Run<K>],
-        connections: &[Connection<K>],
-        settings: &mut [u8],
+        records: &mut RecordsMut<'_, K>,
         times: &mut [K],
         ring: &mut [u16],
-        counts: &mut [u16],
-        sums: &mut [u32],
-        befores: &mut [u16],
-        floors: &mut [K],
-        arcs: &mut [Arc<K>],
-        tables: &mut [K],
-        marks: &mut [u16],
+        work: &mut Work<'_, K>,
         i: u16,
         j: u16,
         setting: u8,
     ) -> Result<(), PlanFault>
-        ensures reckons { Reckons K.Kind.time (turning_call_rows K.Kind.time (lengths (length times.old) (length ring.old) (length counts.old) (length sums.old) (length befores.old) (length floors.old) (length arcs.old) (length tables.old) (length marks.old)) (open_memory self.now tracks.now runs.now connections.now settings.old) times.old (named.Order i j) setting) (register_of K.Kind.time (switch_memory K.Kind.time (open_memory self.now tracks.now runs.now connections.now settings.old) (named.Order i j) setting)) times.old times.new ring.old ring.new result }
-        ensures settings { MatchResult result (λ _. settings.new ≡ slice_set settings.old (setting_place K.Kind.time (register_of K.Kind.time (open_memory self.now tracks.now runs.now connections.now settings.old)) (named.Order i j)) setting) (λ _. settings.new ≡ settings.old) }
+        ensures reckons { let m = memory self.now.numbers (lists_mut records.old) in Reckons K.Kind.time (turning_call_rows K.Kind.time (lengths (length times.old) (length ring.old) (work_lengths work.old)) m times.old (named.Order i j) setting) (register_of K.Kind.time (switch_memory K.Kind.time m (named.Order i j) setting)) times.old times.new ring.old ring.new result }
+        ensures records { MatchResult result (λ _. memory self.now.numbers (lists_mut records.new) ≡ switch_memory K.Kind.time (memory self.now.numbers (lists_mut records.old)) (named.Order i j) setting) (λ _. lists_mut records.new ≡ lists_mut records.old) }
+        ensures lent { SameRecords records.old records.new }
+        ensures work { SameWork work.old work.new }
     {
-        self.turn(
-            tracks,
-            runs,
-            connections,
-            settings,
-            times,
-            ring,
-            counts,
-            sums,
-            befores,
-            floors,
-            arcs,
-            tables,
-            marks,
-            Switch::Order { i, j },
-            setting,
-        )
+        let switch = Switch::Order { i, j };
+        self.turn(records, times, ring, work, switch, setting)
     }
 
     /// Keeps or breaks a connection, and reckons.
     pub fn connect<K: Kind>(
         &self,
-        tracks: &[Track<K>],
-        runs: &[Run<K>],
-        connections: &[Connection<K>],
-        settings: &mut [u8],
+        records: &mut RecordsMut<'_, K>,
         times: &mut [K],
         ring: &mut [u16],
-        counts: &mut [u16],
-        sums: &mut [u32],
-        befores: &mut [u16],
-        floors: &mut [K],
-        arcs: &mut [Arc<K>],
-        tables: &mut [K],
-        marks: &mut [u16],
+        work: &mut Work<'_, K>,
         c: u16,
         setting: u8,
     ) -> Result<(), PlanFault>
-        ensures reckons { Reckons K.Kind.time (turning_call_rows K.Kind.time (lengths (length times.old) (length ring.old) (length counts.old) (length sums.old) (length befores.old) (length floors.old) (length arcs.old) (length tables.old) (length marks.old)) (open_memory self.now tracks.now runs.now connections.now settings.old) times.old (named.Connection c) setting) (register_of K.Kind.time (switch_memory K.Kind.time (open_memory self.now tracks.now runs.now connections.now settings.old) (named.Connection c) setting)) times.old times.new ring.old ring.new result }
-        ensures settings { MatchResult result (λ _. settings.new ≡ slice_set settings.old (setting_place K.Kind.time (register_of K.Kind.time (open_memory self.now tracks.now runs.now connections.now settings.old)) (named.Connection c)) setting) (λ _. settings.new ≡ settings.old) }
+        ensures reckons { let m = memory self.now.numbers (lists_mut records.old) in Reckons K.Kind.time (turning_call_rows K.Kind.time (lengths (length times.old) (length ring.old) (work_lengths work.old)) m times.old (named.Connection c) setting) (register_of K.Kind.time (switch_memory K.Kind.time m (named.Connection c) setting)) times.old times.new ring.old ring.new result }
+        ensures records { MatchResult result (λ _. memory self.now.numbers (lists_mut records.new) ≡ switch_memory K.Kind.time (memory self.now.numbers (lists_mut records.old)) (named.Connection c) setting) (λ _. lists_mut records.new ≡ lists_mut records.old) }
+        ensures lent { SameRecords records.old records.new }
+        ensures work { SameWork work.old work.new }
     {
-        self.turn(
-            tracks,
-            runs,
-            connections,
-            settings,
-            times,
-            ring,
-            counts,
-            sums,
-            befores,
-            floors,
-            arcs,
-            tables,
-            marks,
-            Switch::Connection { c },
-            setting,
-        )
+        let switch = Switch::Connection { c };
+        self.turn(records, times, ring, work, switch, setting)
     }
 
     /// Holds a run until a time, and reckons. The slip has to be given back by `release`.
     pub fn hold<K: Kind>(
         &self,
-        tracks: &[Track<K>],
-        runs: &mut [Run<K>],
-        connections: &[Connection<K>],
-        settings: &[u8],
+        records: &mut RecordsMut<'_, K>,
         times: &mut [K],
         ring: &mut [u16],
-        counts: &mut [u16],
-        sums: &mut [u32],
-        befores: &mut [u16],
-        floors: &mut [K],
-        arcs: &mut [Arc<K>],
-        tables: &mut [K],
-        marks: &mut [u16],
+        work: &mut Work<'_, K>,
         run: u16,
         until: K,
     ) -> Result<Slip, PlanFault>
-        ensures reckons { Reckons K.Kind.time (hold_call_rows K.Kind.time (lengths (length times.old) (length ring.old) (length counts.old) (length sums.old) (length befores.old) (length floors.old) (length arcs.old) (length tables.old) (length marks.old)) (open_memory self.now tracks.now runs.old connections.now settings.now) times.old run until) (register_of K.Kind.time (hold_memory K.Kind.time (open_memory self.now tracks.now runs.old connections.now settings.now) run (Some until))) times.old times.new ring.old ring.new result }
-        ensures runs { MatchResult result (λ _. runs.new ≡ slice_set runs.old run (holding (run_at K.Kind.time runs.old run) (Some until))) (λ _. runs.new ≡ runs.old) }
-        ensures slip { IfOk result (λ s. (s.plan ≡ self.now.number) × (s.run ≡ run)) }
+        ensures reckons { let m = memory self.now.numbers (lists_mut records.old) in Reckons K.Kind.time (hold_call_rows K.Kind.time (lengths (length times.old) (length ring.old) (work_lengths work.old)) m times.old run until) (register_of K.Kind.time (hold_memory K.Kind.time m run (Some until))) times.old times.new ring.old ring.new result }
+        ensures records { MatchResult result (λ _. memory self.now.numbers (lists_mut records.new) ≡ hold_memory K.Kind.time (memory self.now.numbers (lists_mut records.old)) run (Some until)) (λ _. lists_mut records.new ≡ lists_mut records.old) }
+        ensures slip { IfOk result (λ s. (s.plan ≡ self.now.numbers.number) × (s.run ≡ run)) }
+        ensures lent { SameRecords records.old records.new }
+        ensures work { SameWork work.old work.new }
     {
-        admit_hold(
-            self,
-            tracks,
-            runs,
-            connections,
-            settings,
-            times,
-            ring.len(),
-            counts.len(),
-            sums.len(),
-            befores.len(),
-            floors.len(),
-            arcs.len(),
-            tables.len(),
-            marks.len(),
-            run,
-            until,
-        )?;
+        admit_hold(self.numbers, records, times, ring.len(), work, run, until)?;
         let r = run as usize;
-        let marked = with_hold(run_of(runs, r), Some(until));
-        replace_run(
-            self,
-            tracks,
-            runs,
-            connections,
-            settings,
-            times,
-            ring,
-            counts,
-            sums,
-            befores,
-            floors,
-            arcs,
-            tables,
-            marks,
-            r,
-            marked,
-        )?;
+        let held = with_hold(records.runs[r], Some(until));
+        replace_run(self.numbers, records, times, ring, work, r, held)?;
         Ok(Slip {
-            plan: self.number,
+            plan: self.numbers.number,
             run,
         })
     }
@@ -317,107 +158,48 @@ impl Open {
     // Strikes out the hold that a slip speaks of, and reckons.
     fn strike<K: Kind>(
         &self,
-        tracks: &[Track<K>],
-        runs: &mut [Run<K>],
-        connections: &[Connection<K>],
-        settings: &[u8],
+        records: &mut RecordsMut<'_, K>,
         times: &mut [K],
         ring: &mut [u16],
-        counts: &mut [u16],
-        sums: &mut [u32],
-        befores: &mut [u16],
-        floors: &mut [K],
-        arcs: &mut [Arc<K>],
-        tables: &mut [K],
-        marks: &mut [u16],
+        work: &mut Work<'_, K>,
         slip_plan: u32,
         slip_run: u16,
     ) -> Result<(), PlanFault>
-        ensures reckons { Reckons K.Kind.time (release_call_rows K.Kind.time (lengths (length times.old) (length ring.old) (length counts.old) (length sums.old) (length befores.old) (length floors.old) (length arcs.old) (length tables.old) (length marks.old)) (open_memory self.now tracks.now runs.old connections.now settings.now) times.old self.now.number slip_plan slip_run) (register_of K.Kind.time (hold_memory K.Kind.time (open_memory self.now tracks.now runs.old connections.now settings.now) slip_run None)) times.old times.new ring.old ring.new result }
-        ensures runs { MatchResult result (λ _. runs.new ≡ slice_set runs.old slip_run (holding (run_at K.Kind.time runs.old slip_run) None)) (λ _. runs.new ≡ runs.old) }
+        ensures reckons { let m = memory self.now.numbers (lists_mut records.old) in Reckons K.Kind.time (release_call_rows K.Kind.time (lengths (length times.old) (length ring.old) (work_lengths work.old)) m times.old self.now.numbers.number slip_plan slip_run) (register_of K.Kind.time (hold_memory K.Kind.time m slip_run None)) times.old times.new ring.old ring.new result }
+        ensures records { MatchResult result (λ _. memory self.now.numbers (lists_mut records.new) ≡ hold_memory K.Kind.time (memory self.now.numbers (lists_mut records.old)) slip_run None) (λ _. lists_mut records.new ≡ lists_mut records.old) }
+        ensures lent { SameRecords records.old records.new }
+        ensures work { SameWork work.old work.new }
     {
         admit_release(
-            self,
-            tracks,
-            runs,
-            connections,
-            settings,
+            self.numbers,
+            records,
             times,
             ring.len(),
-            counts.len(),
-            sums.len(),
-            befores.len(),
-            floors.len(),
-            arcs.len(),
-            tables.len(),
-            marks.len(),
+            work,
             slip_plan,
             slip_run,
         )?;
         let r = slip_run as usize;
-        let marked = with_hold(run_of(runs, r), None);
-        replace_run(
-            self,
-            tracks,
-            runs,
-            connections,
-            settings,
-            times,
-            ring,
-            counts,
-            sums,
-            befores,
-            floors,
-            arcs,
-            tables,
-            marks,
-            r,
-            marked,
-        )?;
-        Ok(())
+        let free = with_hold(records.runs[r], None);
+        replace_run(self.numbers, records, times, ring, work, r, free)
     }
 
     /// Takes a slip back, strikes out its hold and reckons. Refused, the slip is handed back.
     pub fn release<K: Kind>(
         &self,
-        tracks: &[Track<K>],
-        runs: &mut [Run<K>],
-        connections: &[Connection<K>],
-        settings: &[u8],
+        records: &mut RecordsMut<'_, K>,
         times: &mut [K],
         ring: &mut [u16],
-        counts: &mut [u16],
-        sums: &mut [u32],
-        befores: &mut [u16],
-        floors: &mut [K],
-        arcs: &mut [Arc<K>],
-        tables: &mut [K],
-        marks: &mut [u16],
+        work: &mut Work<'_, K>,
         slip: Slip,
     ) -> Result<(), Unreleased>
-        ensures reckons { Reckons K.Kind.time (release_call_rows K.Kind.time (lengths (length times.old) (length ring.old) (length counts.old) (length sums.old) (length befores.old) (length floors.old) (length arcs.old) (length tables.old) (length marks.old)) (open_memory self.now tracks.now runs.old connections.now settings.now) times.old self.now.number slip.plan slip.run) (register_of K.Kind.time (hold_memory K.Kind.time (open_memory self.now tracks.now runs.old connections.now settings.now) slip.run None)) times.old times.new ring.old ring.new (released result) }
-        ensures runs { MatchResult result (λ _. runs.new ≡ slice_set runs.old slip.run (holding (run_at K.Kind.time runs.old slip.run) None)) (λ _. runs.new ≡ runs.old) }
+        ensures reckons { let m = memory self.now.numbers (lists_mut records.old) in Reckons K.Kind.time (release_call_rows K.Kind.time (lengths (length times.old) (length ring.old) (work_lengths work.old)) m times.old self.now.numbers.number slip.plan slip.run) (register_of K.Kind.time (hold_memory K.Kind.time m slip.run None)) times.old times.new ring.old ring.new (released result) }
+        ensures records { MatchResult result (λ _. memory self.now.numbers (lists_mut records.new) ≡ hold_memory K.Kind.time (memory self.now.numbers (lists_mut records.old)) slip.run None) (λ _. lists_mut records.new ≡ lists_mut records.old) }
         ensures slip { IfErr result (λ u. u.slip ≡ slip) }
+        ensures lent { SameRecords records.old records.new }
+        ensures work { SameWork work.old work.new }
     {
-        let slip_plan = slip.plan;
-        let slip_run = slip.run;
-        match self.strike(
-            tracks,
-            runs,
-            connections,
-            settings,
-            times,
-            ring,
-            counts,
-            sums,
-            befores,
-            floors,
-            arcs,
-            tables,
-            marks,
-            slip_plan,
-            slip_run,
-        ) {
+        match self.strike(records, times, ring, work, slip.plan, slip.run) {
             Ok(()) => {
                 let Slip { plan: _, run: _ } = slip;
                 Ok(())

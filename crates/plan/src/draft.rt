@@ -1,59 +1,36 @@
 //! The calls on a draft.
-ghost use Rattle.std.specs.Prelude.{◌≡◌, ℕ, ◌+◌, ◌<◌, ◌≤◌, length, IfOk, MatchResult, slice_set};
+ghost use Rattle.std.specs.Prelude.{◌≡◌, ℕ, ◌+◌, ◌<◌, ◌≤◌, length, IfOk, MatchResult};
 ghost use Rattle.network.specs.Refusals.{Answers};
+ghost use Rattle.records.specs.Lent.{lists_in, lists_mut, SameRecords};
 ghost use Rattle.records.specs.Records.{track_of_lem};
 ghost use Rattle.records.specs.Places.{total};
 ghost use Rattle.records.specs.Register.{register_of};
 ghost use Rattle.rules.specs.Faults.{plan_number, plan_place};
-ghost use Rattle.rules.specs.Rows.{setting_place, setting_of_lem};
-ghost use Rattle.plan.specs.States.{draft_memory};
-ghost use Rattle.plan.specs.Steps.{unused};
-ghost use Rattle.plan.specs.Drafting.{track_call_rows, run_call_rows, connection_call_rows, preset_call_rows, setting_call_rows, blank, cleared, TrackEntered, RunEntered, ConnectionEntered};
+ghost use Rattle.rules.specs.Rows.{setting_of_lem};
+ghost use Rattle.plan.specs.States.{memory};
+ghost use Rattle.plan.specs.Steps.{cleared, track_memory, run_memory, connection_memory, switch_memory};
+ghost use Rattle.plan.specs.Drafting.{track_call_rows, run_call_rows, connection_call_rows, preset_call_rows, setting_call_rows, blank};
 
 use crate::Draft;
-use crate::drafting::{
-    admit_connection, admit_preset, admit_run, admit_switch, admit_track, draft_view,
-};
+use crate::changes::put;
+use crate::drafting::{admit_connection, admit_preset, admit_run, admit_switch, admit_track};
+use crate::states::Numbers;
 use kinds::Kind;
-use records::{Connection, Run, Track, count_orders, entered};
-use rules::{PlanFault, Switch, place_of, setting_of};
+use records::{Connection, Records, RecordsMut, Run, Track, count_orders};
+use rules::{PlanFault, Switch, setting_of};
 
 /// A draft with its number, of which nothing is entered.
 pub fn make(number: u32) -> Draft
     ensures { result ≡ blank number }
 {
     Draft {
-        number,
-        tracks: 0,
-        runs: 0,
-        connections: 0,
+        numbers: Numbers {
+            number,
+            tracks: 0,
+            runs: 0,
+            connections: 0,
+        },
     }
-}
-
-fn put_track<K: Kind>(tracks: &mut [Track<K>], i: usize, track: Track<K>)
-    requires { i < length tracks.old }
-    ensures { tracks.new ≡ slice_set tracks.old i track }
-{
-    tracks[i] = track;
-}
-
-fn put_connection<K: Kind>(connections: &mut [Connection<K>], i: usize, connection: Connection<K>)
-    requires { i < length connections.old }
-    ensures { connections.new ≡ slice_set connections.old i connection }
-{
-    connections[i] = connection;
-}
-
-// Puts a run, as it is entered: neither reported nor held.
-fn put_unused<K: Kind>(runs: &mut [Run<K>], i: usize, run: Run<K>)
-    requires { i < length runs.old }
-    ensures { runs.new ≡ slice_set runs.old i (unused run) }
-{
-    let mut run = run;
-    run.departed = None;
-    run.arrived = None;
-    run.hold = None;
-    runs[i] = run;
 }
 
 // How many orders the first `n` runs have.
@@ -63,8 +40,7 @@ fn orders_below<K: Kind>(runs: &[Run<K>], n: usize) -> usize
     requires tracks { (k : ℕ) → k < n → track_of_lem K.Kind.time runs.now k < 64 }
     ensures { result ≡ total (track_of_lem K.Kind.time runs.now) n }
 {
-    let (front, _) = runs.split_at(n);
-    count_orders(front) as usize
+    count_orders(&runs[..n]) as usize
 }
 
 fn clear(bytes: &mut [u8], start: usize, number: usize)
@@ -78,98 +54,89 @@ impl Draft {
     /// Enters a track, and answers its number.
     pub fn track<K: Kind>(
         &mut self,
-        tracks: &mut [Track<K>],
-        runs: &[Run<K>],
-        connections: &[Connection<K>],
-        settings: &[u8],
+        records: &mut RecordsMut<'_, K>,
         track: Track<K>,
     ) -> Result<u16, PlanFault>
-        ensures rows { Answers plan_number plan_place (track_call_rows K.Kind.time (draft_memory self.old tracks.old runs.now connections.now settings.now) track) result }
-        ensures writes { MatchResult result (TrackEntered self.old self.new tracks.old tracks.new track) (λ _. (tracks.new ≡ tracks.old) × (self.new ≡ self.old)) }
+        ensures rows { Answers plan_number plan_place (track_call_rows K.Kind.time (memory self.old.numbers (lists_mut records.old)) track) result }
+        ensures writes { MatchResult result (λ n. (n ≡ self.old.numbers.tracks) × (memory self.new.numbers (lists_mut records.new) ≡ track_memory (memory self.old.numbers (lists_mut records.old)) track)) (λ _. (self.new ≡ self.old) × (lists_mut records.new ≡ lists_mut records.old)) }
+        ensures number { self.new.numbers.number ≡ self.old.numbers.number }
+        ensures lent { SameRecords records.old records.new }
     {
-        admit_track(self, tracks, runs, connections, settings, track)?;
-        let n = self.tracks;
-        put_track(tracks, n as usize, track);
-        self.tracks = n + 1;
+        admit_track(self.numbers, records, track)?;
+        let n = self.numbers.tracks;
+        records.tracks[n as usize] = track;
+        self.numbers.tracks = n + 1;
         Ok(n)
     }
 
     /// Enters a run with no report and no hold, and answers its number. The settings of its orders are 0.
     pub fn run<K: Kind>(
         &mut self,
-        tracks: &[Track<K>],
-        runs: &mut [Run<K>],
-        connections: &[Connection<K>],
-        settings: &mut [u8],
+        records: &mut RecordsMut<'_, K>,
         run: Run<K>,
     ) -> Result<u16, PlanFault>
-        ensures rows { Answers plan_number plan_place (run_call_rows K.Kind.time (draft_memory self.old tracks.now runs.old connections.now settings.old) run) result }
-        ensures writes { MatchResult result (RunEntered K.Kind.time self.old self.new runs.old runs.new settings.old settings.new run) (λ _. (runs.new ≡ runs.old) × ((settings.new ≡ settings.old) × (self.new ≡ self.old))) }
+        ensures rows { Answers plan_number plan_place (run_call_rows K.Kind.time (memory self.old.numbers (lists_mut records.old)) run) result }
+        ensures writes { MatchResult result (λ n. (n ≡ self.old.numbers.runs) × (memory self.new.numbers (lists_mut records.new) ≡ run_memory K.Kind.time (memory self.old.numbers (lists_mut records.old)) run)) (λ _. (self.new ≡ self.old) × (lists_mut records.new ≡ lists_mut records.old)) }
+        ensures number { self.new.numbers.number ≡ self.old.numbers.number }
+        ensures lent { SameRecords records.old records.new }
     {
-        admit_run(self, tracks, runs, connections, settings, run)?;
-        let n = self.runs;
-        let first = orders_below(runs, n as usize);
-        put_unused(runs, n as usize, run);
-        let number = orders_below(runs, n as usize + 1) - first;
-        clear(settings, first, number);
-        self.runs = n + 1;
+        admit_run(self.numbers, records, run)?;
+        let n = self.numbers.runs;
+        let first = orders_below(records.lent().runs, n as usize);
+        let unused = Run {
+            departed: None,
+            arrived: None,
+            hold: None,
+            ..run
+        };
+        put(records.runs, n as usize, unused);
+        let number = orders_below(records.lent().runs, n as usize + 1) - first;
+        clear(records.settings, first, number);
+        self.numbers.runs = n + 1;
         Ok(n)
     }
 
     /// Enters a connection, and answers its number. Its setting is 0.
     pub fn connection<K: Kind>(
         &mut self,
-        tracks: &[Track<K>],
-        runs: &[Run<K>],
-        connections: &mut [Connection<K>],
-        settings: &mut [u8],
+        records: &mut RecordsMut<'_, K>,
         connection: Connection<K>,
     ) -> Result<u16, PlanFault>
-        ensures rows { Answers plan_number plan_place (connection_call_rows K.Kind.time (draft_memory self.old tracks.now runs.now connections.old settings.old) connection) result }
-        ensures writes { MatchResult result (ConnectionEntered self.old self.new connections.old connections.new settings.old settings.new connection) (λ _. (connections.new ≡ connections.old) × ((settings.new ≡ settings.old) × (self.new ≡ self.old))) }
+        ensures rows { Answers plan_number plan_place (connection_call_rows K.Kind.time (memory self.old.numbers (lists_mut records.old)) connection) result }
+        ensures writes { MatchResult result (λ n. (n ≡ self.old.numbers.connections) × (memory self.new.numbers (lists_mut records.new) ≡ connection_memory (memory self.old.numbers (lists_mut records.old)) connection)) (λ _. (self.new ≡ self.old) × (lists_mut records.new ≡ lists_mut records.old)) }
+        ensures number { self.new.numbers.number ≡ self.old.numbers.number }
+        ensures lent { SameRecords records.old records.new }
     {
-        admit_connection(self, tracks, runs, connections, settings, connection)?;
-        let n = self.connections;
-        put_connection(connections, n as usize, connection);
-        settings[4_096 + n as usize] = 0;
-        self.connections = n + 1;
+        admit_connection(self.numbers, records, connection)?;
+        let n = self.numbers.connections;
+        records.connections[n as usize] = connection;
+        records.settings[4_096 + n as usize] = 0;
+        self.numbers.connections = n + 1;
         Ok(n)
     }
 
     /// Gives an order or a connection a setting.
     pub fn preset<K: Kind>(
         &self,
-        tracks: &[Track<K>],
-        runs: &[Run<K>],
-        connections: &[Connection<K>],
-        settings: &mut [u8],
+        records: &mut RecordsMut<'_, K>,
         switch: Switch,
         setting: u8,
     ) -> Result<(), PlanFault>
-        ensures rows { Answers plan_number plan_place (preset_call_rows K.Kind.time (draft_memory self.now tracks.now runs.now connections.now settings.old) switch setting) result }
-        ensures writes { MatchResult result (λ _. settings.new ≡ slice_set settings.old (setting_place K.Kind.time (register_of K.Kind.time (draft_memory self.now tracks.now runs.now connections.now settings.old)) switch) setting) (λ _. settings.new ≡ settings.old) }
+        ensures rows { Answers plan_number plan_place (preset_call_rows K.Kind.time (memory self.now.numbers (lists_mut records.old)) switch setting) result }
+        ensures writes { MatchResult result (λ _. memory self.now.numbers (lists_mut records.new) ≡ switch_memory K.Kind.time (memory self.now.numbers (lists_mut records.old)) switch setting) (λ _. lists_mut records.new ≡ lists_mut records.old) }
+        ensures lent { SameRecords records.old records.new }
     {
-        admit_preset(self, tracks, runs, connections, settings, switch, setting)?;
-        let v = entered(draft_view(self, tracks, runs, connections, settings));
-        let place = place_of(v, switch);
-        settings[place] = setting;
+        let place = admit_preset(self.numbers, records, switch, setting)?;
+        records.settings[place] = setting;
         Ok(())
     }
 
     /// The setting of an order or a connection.
-    pub fn setting<K: Kind>(
-        &self,
-        tracks: &[Track<K>],
-        runs: &[Run<K>],
-        connections: &[Connection<K>],
-        settings: &[u8],
-        switch: Switch,
-    ) -> Result<u8, PlanFault>
-        ensures rows { Answers plan_number plan_place (setting_call_rows K.Kind.time (draft_memory self.now tracks.now runs.now connections.now settings.now) switch) result }
-        ensures reads { IfOk result (λ s. s ≡ setting_of_lem K.Kind.time (register_of K.Kind.time (draft_memory self.now tracks.now runs.now connections.now settings.now)) switch) }
+    pub fn setting<K: Kind>(&self, records: Records<'_, K>, switch: Switch) -> Result<u8, PlanFault>
+        ensures rows { Answers plan_number plan_place (setting_call_rows K.Kind.time (memory self.now.numbers (lists_in records.entry)) switch) result }
+        ensures reads { IfOk result (λ s. s ≡ setting_of_lem K.Kind.time (register_of K.Kind.time (memory self.now.numbers (lists_in records.entry))) switch) }
     {
-        admit_switch(self, tracks, runs, connections, settings, switch)?;
-        let v = entered(draft_view(self, tracks, runs, connections, settings));
+        let v = admit_switch(self.numbers, records, switch)?;
         Ok(setting_of(v, switch))
     }
 }

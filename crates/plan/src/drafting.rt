@@ -1,123 +1,107 @@
 //! What the calls on a draft refuse.
-ghost use Rattle.std.specs.Prelude.{◌≡◌, ◌<◌, ◌≤◌, OnOk};
+ghost use Rattle.std.specs.Prelude.{◌≡◌, ◌+◌, ◌<◌, ◌≤◌, length, IfOk, OnOk};
 ghost use Rattle.network.specs.Refusals.{Answers, Passed};
-ghost use Rattle.records.specs.Register.{seen, register_of};
+ghost use Rattle.records.specs.Lent.{lists_in, lists_mut};
+ghost use Rattle.records.specs.Register.{seen, front, register_of};
 ghost use Rattle.rules.specs.Faults.{plan_number, plan_place};
-ghost use Rattle.rules.specs.Rows.{SoundDraft, orders_with, switch_rows};
-ghost use Rattle.plan.specs.States.{draft_memory};
+ghost use Rattle.rules.specs.Rows.{SoundDraft, draft_rows, setting_place, switch_rows};
+ghost use Rattle.plan.specs.States.{memory};
+ghost use Rattle.plan.specs.Steps.{orders_entered, orders_added};
 ghost use Rattle.plan.specs.Drafting.{track_call_rows, run_call_rows, connection_call_rows, preset_call_rows, setting_call_rows};
 
-use crate::Draft;
+use crate::states::Numbers;
 use kinds::Kind;
-use records::{Connection, Run, Track, View, entered};
+use records::{Connection, Records, RecordsMut, Run, Track, View, entered};
 use rules::{
     PlanFault, Switch, check_connection, check_draft, check_run, check_setting, check_switch,
-    check_track,
+    check_track, place_of,
 };
 
-/// The memories of a draft, to be read.
-pub(crate) fn draft_view<'v, K: Kind>(
-    draft: &Draft,
-    tracks: &'v [Track<K>],
-    runs: &'v [Run<K>],
-    connections: &'v [Connection<K>],
-    settings: &'v [u8],
-) -> View<'v, K>
-    ensures { seen result ≡ draft_memory draft.now tracks.now runs.now connections.now settings.now }
+// What every call on a draft refuses. Taken, what is entered of it.
+fn admit<'v, K: Kind>(numbers: Numbers, records: Records<'v, K>) -> Result<View<'v, K>, PlanFault>
+    ensures rows { Answers plan_number plan_place (draft_rows K.Kind.time (memory numbers (lists_in records.entry))) result }
+    ensures sound { let m = memory numbers (lists_in records.entry) in IfOk result (λ v. (seen v ≡ front m) × SoundDraft K.Kind.time m) }
 {
-    View {
-        tracks,
-        runs,
-        connections,
-        settings,
-        track_count: draft.tracks as usize,
-        run_count: draft.runs as usize,
-        connection_count: draft.connections as usize,
-    }
+    let v = numbers.view(records);
+    check_draft(v)?;
+    Ok(entered(v))
+}
+
+// The same of memories that are lent to be written.
+fn admit_lent<'v, K: Kind>(
+    numbers: Numbers,
+    records: &'v RecordsMut<'_, K>,
+) -> Result<View<'v, K>, PlanFault>
+    ensures rows { Answers plan_number plan_place (draft_rows K.Kind.time (memory numbers (lists_mut records.now))) result }
+    ensures sound { let m = memory numbers (lists_mut records.now) in IfOk result (λ v. (seen v ≡ front m) × SoundDraft K.Kind.time m) }
+{
+    admit(numbers, records.lent())
 }
 
 /// What entering a track refuses. Taken, there is room for it.
 pub(crate) fn admit_track<K: Kind>(
-    draft: &Draft,
-    tracks: &[Track<K>],
-    runs: &[Run<K>],
-    connections: &[Connection<K>],
-    settings: &[u8],
+    numbers: Numbers,
+    records: &RecordsMut<'_, K>,
     track: Track<K>,
 ) -> Result<(), PlanFault>
-    ensures rows { Answers plan_number plan_place (track_call_rows K.Kind.time (draft_memory draft.now tracks.now runs.now connections.now settings.now) track) result }
-    ensures room { OnOk result (SoundDraft K.Kind.time (draft_memory draft.now tracks.now runs.now connections.now settings.now) × (draft.now.tracks < 64)) }
+    ensures rows { Answers plan_number plan_place (track_call_rows K.Kind.time (memory numbers (lists_mut records.now)) track) result }
+    ensures room { OnOk result (SoundDraft K.Kind.time (memory numbers (lists_mut records.now)) × (numbers.tracks < 64)) }
 {
-    let v = draft_view(draft, tracks, runs, connections, settings);
-    check_draft(v)?;
-    check_track(entered(v), track)
+    let v = admit_lent(numbers, records)?;
+    check_track(v, track)
 }
 
 /// What entering a run refuses. Taken, there is room for it and for its orders.
 pub(crate) fn admit_run<K: Kind>(
-    draft: &Draft,
-    tracks: &[Track<K>],
-    runs: &[Run<K>],
-    connections: &[Connection<K>],
-    settings: &[u8],
+    numbers: Numbers,
+    records: &RecordsMut<'_, K>,
     run: Run<K>,
 ) -> Result<(), PlanFault>
-    ensures rows { Answers plan_number plan_place (run_call_rows K.Kind.time (draft_memory draft.now tracks.now runs.now connections.now settings.now) run) result }
-    ensures room { OnOk result (SoundDraft K.Kind.time (draft_memory draft.now tracks.now runs.now connections.now settings.now) × ((draft.now.runs < 512) × ((run.track < 64) × (orders_with K.Kind.time (register_of K.Kind.time (draft_memory draft.now tracks.now runs.now connections.now settings.now)) run.track ≤ 4096)))) }
+    ensures rows { Answers plan_number plan_place (run_call_rows K.Kind.time (memory numbers (lists_mut records.now)) run) result }
+    ensures room { let m = memory numbers (lists_mut records.now) in OnOk result (SoundDraft K.Kind.time m × ((numbers.runs < 512) × ((run.track < 64) × (orders_entered K.Kind.time m + orders_added K.Kind.time m run.track ≤ 4096)))) }
 {
-    let v = draft_view(draft, tracks, runs, connections, settings);
-    check_draft(v)?;
-    check_run(entered(v), run)
+    let v = admit_lent(numbers, records)?;
+    check_run(v, run)
 }
 
 /// What entering a connection refuses. Taken, there is room for it.
 pub(crate) fn admit_connection<K: Kind>(
-    draft: &Draft,
-    tracks: &[Track<K>],
-    runs: &[Run<K>],
-    connections: &[Connection<K>],
-    settings: &[u8],
+    numbers: Numbers,
+    records: &RecordsMut<'_, K>,
     connection: Connection<K>,
 ) -> Result<(), PlanFault>
-    ensures rows { Answers plan_number plan_place (connection_call_rows K.Kind.time (draft_memory draft.now tracks.now runs.now connections.now settings.now) connection) result }
-    ensures room { OnOk result (SoundDraft K.Kind.time (draft_memory draft.now tracks.now runs.now connections.now settings.now) × (draft.now.connections < 512)) }
+    ensures rows { Answers plan_number plan_place (connection_call_rows K.Kind.time (memory numbers (lists_mut records.now)) connection) result }
+    ensures room { OnOk result (SoundDraft K.Kind.time (memory numbers (lists_mut records.now)) × (numbers.connections < 512)) }
 {
-    let v = draft_view(draft, tracks, runs, connections, settings);
-    check_draft(v)?;
-    check_connection(entered(v), connection)
+    let v = admit_lent(numbers, records)?;
+    check_connection(v, connection)
 }
 
-/// What giving a switch of a draft a setting refuses. Taken, the switch is known.
+/// What giving a switch of a draft a setting refuses; taken, the place of its byte.
 pub(crate) fn admit_preset<K: Kind>(
-    draft: &Draft,
-    tracks: &[Track<K>],
-    runs: &[Run<K>],
-    connections: &[Connection<K>],
-    settings: &[u8],
+    numbers: Numbers,
+    records: &RecordsMut<'_, K>,
     switch: Switch,
     setting: u8,
-) -> Result<(), PlanFault>
-    ensures rows { Answers plan_number plan_place (preset_call_rows K.Kind.time (draft_memory draft.now tracks.now runs.now connections.now settings.now) switch setting) result }
-    ensures known { OnOk result (SoundDraft K.Kind.time (draft_memory draft.now tracks.now runs.now connections.now settings.now) × Passed (switch_rows K.Kind.time (register_of K.Kind.time (draft_memory draft.now tracks.now runs.now connections.now settings.now)) switch)) }
+) -> Result<usize, PlanFault>
+    ensures rows { Answers plan_number plan_place (preset_call_rows K.Kind.time (memory numbers (lists_mut records.now)) switch setting) result }
+    ensures known { IfOk result (λ p. (p ≡ setting_place K.Kind.time (register_of K.Kind.time (memory numbers (lists_mut records.now))) switch) × (p < length records.now.settings.now)) }
 {
-    let v = draft_view(draft, tracks, runs, connections, settings);
-    check_draft(v)?;
-    check_setting(entered(v), switch, setting)
+    let v = admit_lent(numbers, records)?;
+    check_setting(v, switch, setting)?;
+    Ok(place_of(v, switch))
 }
 
-/// What asking for a setting of a draft refuses. Taken, the switch is known.
-pub(crate) fn admit_switch<K: Kind>(
-    draft: &Draft,
-    tracks: &[Track<K>],
-    runs: &[Run<K>],
-    connections: &[Connection<K>],
-    settings: &[u8],
+/// What asking for a setting of a draft refuses; taken, the switch is known in what is entered.
+pub(crate) fn admit_switch<'v, K: Kind>(
+    numbers: Numbers,
+    records: Records<'v, K>,
     switch: Switch,
-) -> Result<(), PlanFault>
-    ensures rows { Answers plan_number plan_place (setting_call_rows K.Kind.time (draft_memory draft.now tracks.now runs.now connections.now settings.now) switch) result }
-    ensures known { OnOk result (SoundDraft K.Kind.time (draft_memory draft.now tracks.now runs.now connections.now settings.now) × Passed (switch_rows K.Kind.time (register_of K.Kind.time (draft_memory draft.now tracks.now runs.now connections.now settings.now)) switch)) }
+) -> Result<View<'v, K>, PlanFault>
+    ensures rows { Answers plan_number plan_place (setting_call_rows K.Kind.time (memory numbers (lists_in records.entry)) switch) result }
+    ensures known { let m = memory numbers (lists_in records.entry) in IfOk result (λ v. (seen v ≡ front m) × (SoundDraft K.Kind.time m × Passed (switch_rows K.Kind.time (register_of K.Kind.time m) switch))) }
 {
-    let v = draft_view(draft, tracks, runs, connections, settings);
-    check_draft(v)?;
-    check_switch(entered(v), switch)
+    let v = admit(numbers, records)?;
+    check_switch(v, switch)?;
+    Ok(v)
 }

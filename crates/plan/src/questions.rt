@@ -1,73 +1,58 @@
 //! The questions that an open plan answers. They write nothing.
-ghost use Rattle.std.specs.Prelude.{◌≡◌, ℕ, ◌<◌, ◌++◌, IfOk};
+ghost use Rattle.std.specs.Prelude.{◌≡◌, ℕ, ◌++◌, IfOk};
 ghost use Rattle.network.specs.Reckoning.{at as time_at};
 ghost use Rattle.network.specs.Refusals.{Answers};
+ghost use Rattle.records.specs.Lent.{lists_in};
 ghost use Rattle.records.specs.Register.{register_of};
 ghost use Rattle.rules.specs.Faults.{plan_number, plan_place};
 ghost use Rattle.rules.specs.Rows.{open_rows, event_rows, switch_rows, setting_of_lem};
 ghost use Rattle.cost.specs.Cost.{delay_cost_lem};
-ghost use Rattle.plan.specs.States.{open_memory};
+ghost use Rattle.plan.specs.States.{memory};
 
 use crate::Open;
-use crate::changes::open_view;
+use crate::admits::admit_shown;
 use cost::delay_cost;
 use kinds::Kind;
-use records::{Connection, Run, Track, entered};
+use records::Records;
 use rules::{PlanFault, Switch, check_event, check_open, check_switch, setting_of};
 
 impl Open {
     /// The time shown of an event.
     pub fn time<K: Kind>(
         &self,
-        tracks: &[Track<K>],
-        runs: &[Run<K>],
-        connections: &[Connection<K>],
-        settings: &[u8],
+        records: Records<'_, K>,
         times: &[K],
         event: u16,
     ) -> Result<K, PlanFault>
-        ensures rows { Answers plan_number plan_place (open_rows K.Kind.time (open_memory self.now tracks.now runs.now connections.now settings.now) times.now ++ event_rows K.Kind.time (register_of K.Kind.time (open_memory self.now tracks.now runs.now connections.now settings.now)) event) result }
+        ensures rows { let m = memory self.now.numbers (lists_in records.entry) in Answers plan_number plan_place (open_rows K.Kind.time m times.now ++ event_rows K.Kind.time (register_of K.Kind.time m) event) result }
         ensures value { IfOk result (λ x. x ≡ time_at K.Kind.time times.now event) }
     {
-        let v = open_view(self, tracks, runs, connections, settings);
-        check_open(v, times)?;
-        check_event(entered(v), event)?;
+        let v = admit_shown(self.numbers, records, times)?;
+        check_event(v, event)?;
         Ok(times[event as usize])
     }
 
     /// The setting of an order or a connection.
     pub fn setting<K: Kind>(
         &self,
-        tracks: &[Track<K>],
-        runs: &[Run<K>],
-        connections: &[Connection<K>],
-        settings: &[u8],
+        records: Records<'_, K>,
         times: &[K],
         switch: Switch,
     ) -> Result<u8, PlanFault>
-        ensures rows { Answers plan_number plan_place (open_rows K.Kind.time (open_memory self.now tracks.now runs.now connections.now settings.now) times.now ++ switch_rows K.Kind.time (register_of K.Kind.time (open_memory self.now tracks.now runs.now connections.now settings.now)) switch) result }
-        ensures value { IfOk result (λ x. x ≡ setting_of_lem K.Kind.time (register_of K.Kind.time (open_memory self.now tracks.now runs.now connections.now settings.now)) switch) }
+        ensures rows { let m = memory self.now.numbers (lists_in records.entry) in Answers plan_number plan_place (open_rows K.Kind.time m times.now ++ switch_rows K.Kind.time (register_of K.Kind.time m) switch) result }
+        ensures value { IfOk result (λ x. x ≡ setting_of_lem K.Kind.time (register_of K.Kind.time (memory self.now.numbers (lists_in records.entry))) switch) }
     {
-        let v = open_view(self, tracks, runs, connections, settings);
-        check_open(v, times)?;
-        let v = entered(v);
+        let v = admit_shown(self.numbers, records, times)?;
         check_switch(v, switch)?;
         Ok(setting_of(v, switch))
     }
 
     /// The delay cost of the times shown.
-    pub fn cost<K: Kind>(
-        &self,
-        tracks: &[Track<K>],
-        runs: &[Run<K>],
-        connections: &[Connection<K>],
-        settings: &[u8],
-        times: &[K],
-    ) -> Result<u64, PlanFault>
-        ensures rows { Answers plan_number plan_place (open_rows K.Kind.time (open_memory self.now tracks.now runs.now connections.now settings.now) times.now) result }
-        ensures value { IfOk result (λ n. n ≡ delay_cost_lem K.Kind.time (register_of K.Kind.time (open_memory self.now tracks.now runs.now connections.now settings.now)) (time_at K.Kind.time times.now)) }
+    pub fn cost<K: Kind>(&self, records: Records<'_, K>, times: &[K]) -> Result<u64, PlanFault>
+        ensures rows { Answers plan_number plan_place (open_rows K.Kind.time (memory self.now.numbers (lists_in records.entry)) times.now) result }
+        ensures value { IfOk result (λ n. n ≡ delay_cost_lem K.Kind.time (register_of K.Kind.time (memory self.now.numbers (lists_in records.entry))) (time_at K.Kind.time times.now)) }
     {
-        let v = open_view(self, tracks, runs, connections, settings);
+        let v = self.numbers.view(records);
         check_open(v, times)?;
         let mut counts = [0u16; 512];
         let mut sums = [0u32; 512];

@@ -1,23 +1,24 @@
 //! Trying a setting out.
-ghost use Rattle.std.specs.Prelude.{◌≡◌, ℕ, ◌*◌, ◌<◌, ◌≤◌, length, IfOk, slice_set};
+ghost use Rattle.std.specs.Prelude.{◌≡◌, ℕ, ◌<◌, [], length, IfOk, slice_set};
 ghost use Rattle.network.specs.Reckoning.{at as time_at};
+ghost use Rattle.records.specs.Lent.{lists_mut, SameRecords};
 ghost use Rattle.records.specs.Register.{register_of};
 ghost use Rattle.records.specs.Stored.{Stored};
 ghost use Rattle.rules.specs.Rows.{RecordsListed};
-ghost use Rattle.force.specs.Reckoned.{TimesAfter, RingAfter};
+ghost use Rattle.force.specs.Work.{work_lengths, SameWork};
 ghost use Rattle.cost.specs.Cost.{delay_cost_lem};
-ghost use Rattle.plan.specs.States.{open_memory};
+ghost use Rattle.plan.specs.States.{memory, lists};
 ghost use Rattle.plan.specs.Steps.{switch_memory};
-ghost use Rattle.plan.specs.Calls.{Listed, lengths, turning_call_rows, Reckons, done};
+ghost use Rattle.plan.specs.Calls.{Listed, lengths, turning_call_rows, Reckons};
 
 use crate::Open;
 use crate::admits::admit_turning;
-use crate::changes::open_view;
+use crate::changes::put_in_force;
+use crate::states::Numbers;
 use cost::delay_cost;
-use force::reckon_plan;
+use force::Work;
 use kinds::Kind;
-use network::{Arc, NetworkFault};
-use records::{Connection, Run, Track};
+use records::{Connection, Records, RecordsMut, Run, Track};
 use rules::{PlanFault, Switch};
 
 // The setting bytes with one of them switched. Dropped, the old byte is back.
@@ -51,31 +52,25 @@ impl Drop for Switched<'_> {
 
 // Reckons with one setting changed, into trial memory, and counts the cost. The setting is back on every way out.
 fn try_setting<K: Kind>(
-    plan: &Open,
-    tracks: &[Track<K>],
-    runs: &[Run<K>],
-    connections: &[Connection<K>],
+    numbers: Numbers,
+    tracks: &mut [Track<K>],
+    runs: &mut [Run<K>],
+    connections: &mut [Connection<K>],
     settings: &mut [u8],
     trial: &mut [K],
     ring: &mut [u16],
-    counts: &mut [u16],
-    sums: &mut [u32],
-    befores: &mut [u16],
-    floors: &mut [K],
-    arcs: &mut [Arc<K>],
-    tables: &mut [K],
-    marks: &mut [u16],
+    work: &mut Work<'_, K>,
     place: usize,
     setting: u8,
-) -> Result<u64, NetworkFault>
+) -> Result<u64, PlanFault>
     requires inside { place < length settings.old }
-    requires records { RecordsListed (open_memory plan.now tracks.now runs.now connections.now settings.old) }
-    requires listed { Listed (lengths (length trial.old) (length ring.old) (length counts.old) (length sums.old) (length befores.old) (length floors.old) (length arcs.old) (length tables.old) (length marks.old)) }
-    requires stored { Stored K.Kind.time (open_memory plan.now tracks.now runs.now connections.now (slice_set settings.old place setting)) }
-    ensures times { TimesAfter K.Kind.time (register_of K.Kind.time (open_memory plan.now tracks.now runs.now connections.now (slice_set settings.old place setting))) trial.old trial.new (done result) }
-    ensures ring { RingAfter K.Kind.time (register_of K.Kind.time (open_memory plan.now tracks.now runs.now connections.now (slice_set settings.old place setting))) ring.old ring.new (done result) }
-    ensures cost { IfOk result (λ n. n ≡ delay_cost_lem K.Kind.time (register_of K.Kind.time (open_memory plan.now tracks.now runs.now connections.now (slice_set settings.old place setting))) (time_at K.Kind.time trial.new)) }
-    ensures settings { settings.new ≡ settings.old }
+    requires records { RecordsListed (memory numbers (lists tracks.old runs.old connections.old settings.old)) }
+    requires listed { Listed (lengths (length trial.old) (length ring.old) (work_lengths work.old)) }
+    requires stored { Stored K.Kind.time (memory numbers (lists tracks.old runs.old connections.old (slice_set settings.old place setting))) }
+    ensures reckons { Reckons K.Kind.time [] (register_of K.Kind.time (memory numbers (lists tracks.old runs.old connections.old (slice_set settings.old place setting)))) trial.old trial.new ring.old ring.new result }
+    ensures cost { IfOk result (λ n. n ≡ delay_cost_lem K.Kind.time (register_of K.Kind.time (memory numbers (lists tracks.old runs.old connections.old (slice_set settings.old place setting)))) (time_at K.Kind.time trial.new)) }
+    ensures records { lists tracks.new runs.new connections.new settings.new ≡ lists tracks.old runs.old connections.old settings.old }
+    ensures work { SameWork work.old work.new }
 {
     let old = settings[place];
     settings[place] = setting;
@@ -84,90 +79,56 @@ fn try_setting<K: Kind>(
         place,
         old,
     };
-    reckon_plan(
-        open_view(plan, tracks, runs, connections, switched.bytes()),
-        counts,
-        sums,
-        befores,
-        floors,
-        arcs,
-        tables,
-        marks,
-        trial,
-        ring,
-    )?;
-    let cost = delay_cost(
-        open_view(plan, tracks, runs, connections, switched.bytes()),
-        trial,
-        counts,
-        sums,
-        befores,
-    );
-    Ok(cost)
+    let records = Records {
+        tracks,
+        runs,
+        connections,
+        settings: switched.bytes(),
+    };
+    put_in_force(numbers, records, trial, ring, work)?;
+    let v = numbers.view(records);
+    Ok(delay_cost(v, trial, work.counts, work.sums, work.befores))
 }
 
 impl Open {
     /// Tries a setting out: the times with it changed, in trial memory, and their cost. The plan is as it was.
     pub fn trial<K: Kind>(
         &self,
-        tracks: &[Track<K>],
-        runs: &[Run<K>],
-        connections: &[Connection<K>],
-        settings: &mut [u8],
+        records: &mut RecordsMut<'_, K>,
         times: &[K],
         trial: &mut [K],
         ring: &mut [u16],
-        counts: &mut [u16],
-        sums: &mut [u32],
-        befores: &mut [u16],
-        floors: &mut [K],
-        arcs: &mut [Arc<K>],
-        tables: &mut [K],
-        marks: &mut [u16],
+        work: &mut Work<'_, K>,
         switch: Switch,
         setting: u8,
     ) -> Result<u64, PlanFault>
-        ensures reckons { Reckons K.Kind.time (turning_call_rows K.Kind.time (lengths (length trial.old) (length ring.old) (length counts.old) (length sums.old) (length befores.old) (length floors.old) (length arcs.old) (length tables.old) (length marks.old)) (open_memory self.now tracks.now runs.now connections.now settings.old) times.now switch setting) (register_of K.Kind.time (switch_memory K.Kind.time (open_memory self.now tracks.now runs.now connections.now settings.old) switch setting)) trial.old trial.new ring.old ring.new result }
-        ensures cost { IfOk result (λ n. n ≡ delay_cost_lem K.Kind.time (register_of K.Kind.time (switch_memory K.Kind.time (open_memory self.now tracks.now runs.now connections.now settings.old) switch setting)) (time_at K.Kind.time trial.new)) }
-        ensures settings { settings.new ≡ settings.old }
+        ensures reckons { let m = memory self.now.numbers (lists_mut records.old) in Reckons K.Kind.time (turning_call_rows K.Kind.time (lengths (length trial.old) (length ring.old) (work_lengths work.old)) m times.now switch setting) (register_of K.Kind.time (switch_memory K.Kind.time m switch setting)) trial.old trial.new ring.old ring.new result }
+        ensures cost { IfOk result (λ n. n ≡ delay_cost_lem K.Kind.time (register_of K.Kind.time (switch_memory K.Kind.time (memory self.now.numbers (lists_mut records.old)) switch setting)) (time_at K.Kind.time trial.new)) }
+        ensures records { lists_mut records.new ≡ lists_mut records.old }
+        ensures lent { SameRecords records.old records.new }
+        ensures work { SameWork work.old work.new }
     {
         let place = admit_turning(
-            self,
-            tracks,
-            runs,
-            connections,
-            settings,
+            self.numbers,
+            records,
             times,
             trial.len(),
             ring.len(),
-            counts.len(),
-            sums.len(),
-            befores.len(),
-            floors.len(),
-            arcs.len(),
-            tables.len(),
-            marks.len(),
+            work,
             switch,
             setting,
         )?;
-        let cost = try_setting(
-            self,
-            tracks,
-            runs,
-            connections,
-            settings,
+        try_setting(
+            self.numbers,
+            records.tracks,
+            records.runs,
+            records.connections,
+            records.settings,
             trial,
             ring,
-            counts,
-            sums,
-            befores,
-            floors,
-            arcs,
-            tables,
-            marks,
+            work,
             place,
             setting,
-        )?;
-        Ok(cost)
+        )
     }
 }

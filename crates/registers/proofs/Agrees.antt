@@ -17,9 +17,9 @@ use Rattle.rules.specs.declared.switches.Switch.{Switch}
 use Rattle.rules.specs.declared.switches.Switch.TheVariants as switch
 use Rattle.rules.specs.Rows.{RecordsListed, orders_with, switch_rows}
 use Rattle.rules.proofs.Rows.{order_passed, link_passed}
-use Rattle.plan.specs.Steps.{with_runs, unused, reported, holding, report_memory, hold_memory, switch_memory}
+use Rattle.plan.specs.Steps.{cleared, with_runs, unused, reported, holding, track_memory, connection_memory, orders_entered, orders_added, run_memory, report_memory, hold_memory, switch_memory}
 use Rattle.registers.specs.Steps.{Same, empty, enter_track, enter_run, enter_connection, set_switch, with_run, report, hold}
-use Rattle.registers.specs.Memories.{track_memory, connection_memory, cleared, orders_entered, orders_added, run_memory, StepsOf}
+use Rattle.registers.specs.Memories.{StepsOf}
 use Rattle.registers.proofs.Kept.{track_before, ordered_before, track_still}
 
 -- reading among cleared bytes

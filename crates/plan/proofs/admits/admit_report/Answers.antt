@@ -1,35 +1,30 @@
-use Rattle.std.proofs.Common.{◌≡◌, length, ap, ◌∙◌, subst}
-use Rattle.std.proofs.lemmas.Result.{err_from_is_err_and}
-use Rattle.network.specs.Refusals.{Answers}
-use Rattle.network.proofs.Refusals.{first_front, answers_more}
-use Rattle.records.specs.Register.{Memory, seen, front, all_of, register_of}
-use Rattle.rules.specs.Faults.{plan_number, plan_place}
+use Rattle.std.proofs.Common.{length}
+use Rattle.records.specs.Lent.{lists_mut}
+use Rattle.records.specs.Register.{Memory, all_of, register_of}
+use Rattle.force.specs.Work.{work_lengths}
 use Rattle.rules.specs.Rows.{report_rows}
-use Rattle.plan.specs.States.{open_memory}
+use Rattle.plan.specs.States.{memory}
 use Rattle.plan.specs.Calls.{lengths, open_call_rows}
+use Rattle.plan.proofs.Told.{left_front, told, told_behind}
 use Rattle.plan.proofs.Ready.{report_ready}
 use Rattle.plan.proofs.admits.admit_report.Goals as goal
 
-pub returns-in_err-admit : goal.returns-in_err-admit
-returns-in_err-admit g c =
+pub returns-in_err-v-clause-rows : goal.returns-in_err-v-clause-rows
+returns-in_err-v-clause-rows g c =
     let t = g.K.Kind.time in
     let a = c.args in
-    let l = lengths (length a.times.now) a.ring a.counts a.sums a.befores a.floors a.arcs a.tables a.marks in
-    let m = open_memory a.plan.now a.tracks.now a.runs.now a.connections.now a.settings.now in
-    let p = err_from_is_err_and c.from_residual.result c.from_residual.ensures.1 in
-    rw (p.1, p.2) (record { rows = first_front (open_call_rows t l m a.times.now) (report_rows t (register_of t m) a.event a.at) _ _ c.in_err-admit.ensures.rows; ready = tt })
+    let m = memory a.numbers (lists_mut a.records.now) in
+    left_front _ _ c.from_residual.ensures.1 (open_call_rows t (lengths (length a.times.now) a.ring (work_lengths a.work.now)) m a.times.now) (report_rows t (register_of t m) a.event a.at) c.in_err-v.ensures.rows
 
 pub returns : goal.returns
 returns g c =
     let t = g.K.Kind.time in
     let a = c.args in
-    let l = lengths (length a.times.now) a.ring a.counts a.sums a.befores a.floors a.arcs a.tables a.marks in
-    let m = open_memory a.plan.now a.tracks.now a.runs.now a.connections.now a.settings.now in
-    let is : seen c.entered.result ≡ front m = c.entered.ensures ∙ ap front c.open_view-v.ensures in
-    let P : Memory g.row.K.Denot → Type 0 = λ x. Answers plan_number plan_place (report_rows t (all_of t x) a.event a.at) c.check_report.result in
-    let own : Answers plan_number plan_place (report_rows t (register_of t m) a.event a.at) c.check_report.result = subst P is c.check_report.ensures in
-    let sound = c.in_ok-admit.ensures.sound in
+    let l = lengths (length a.times.now) a.ring (work_lengths a.work.now) in
+    let m = memory a.numbers (lists_mut a.records.now) in
+    let ys = λ (x : Memory g.row.K.Denot). report_rows t (all_of t x) a.event a.at in
+    let known = c.in_ok-v.ensures in
     record {
-      rows = answers_more plan_number plan_place (open_call_rows t l m a.times.now) (report_rows t (register_of t m) a.event a.at) c.check_report.result c.in_ok-admit.ensures.rows own;
-      ready = report_ready t l m a.times.now sound.0 sound.1 a.event a.at c.check_report.result own;
+      rows = told_behind ys _ _ known.sound.0 (open_call_rows t l m a.times.now) c.check_report.result known.rows c.check_report.ensures;
+      ready = report_ready t l m a.times.now known.listed known.sound.1 a.event a.at c.check_report.result (told ys _ _ known.sound.0 c.check_report.result c.check_report.ensures);
     }

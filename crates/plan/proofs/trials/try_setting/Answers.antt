@@ -1,86 +1,53 @@
-use Rattle.std.proofs.Common.{◌≡◌, ℕ, ◌*◌, length, take, set, Ok, Err, sym, ap, ◌∙◌, subst, arith, length-set, set-set}
+use Rattle.std.proofs.Common.{ℕ, ◌*◌, List, [], set, sym, ap, ◌∙◌, subst, arith, set-set}
 use lib.Seq.{set-get_or}
-use Rattle.std.proofs.lemmas.Result.{err_from_is_err_and}
-use Rattle.std.proofs.lemmas.List.{length-take-le}
 use Rattle.network.specs.Reckoning.{at}
-use Rattle.records.specs.Register.{Memory, seen, register_of}
-use Rattle.records.specs.Stored.{Stored, Shown}
-use Rattle.force.specs.Reckoned.{TimesAfter, RingAfter}
+use Rattle.records.specs.Register.{register_of}
+use Rattle.records.specs.Stored.{Shown}
 use Rattle.force.proofs.Sizes.{least_small}
-use Rattle.cost.specs.Cost.{delay_cost_lem}
-use Rattle.plan.specs.States.{open_memory}
+use Rattle.plan.specs.States.{memory, lists}
+use Rattle.plan.proofs.Stays.{long_runs}
+use Rattle.plan.proofs.Reckoned.{taken, failed, reckons, reckons_taken, reckons_failed}
 use Rattle.plan.proofs.trials.try_setting.Goals as goal
 
-pub reckon_plan-requires : goal.reckon_plan-requires
-reckon_plan-requires g c =
+pub returns-in_err-put_in_force-clause-reckons : goal.returns-in_err-put_in_force-clause-reckons
+returns-in_err-put_in_force-clause-reckons g c =
     let t = g.K.Kind.time in
     let a = c.args in
-    let is : seen c.open_view.result ≡ open_memory a.plan.now a.tracks.now a.runs.now a.connections.now (set a.settings.now a.place a.setting) = c.open_view.ensures ∙ ap (open_memory a.plan.now a.tracks.now a.runs.now a.connections.now) c.bytes.ensures in
-    let P : Memory g.row.K.Denot → Type 0 = Stored t in
-    let r = c.requires.records in
-    let l = c.requires.listed in
-    record {
-      stored = subst P (sym is) c.requires.stored;
-      lengths = (ap (λ x. length x.tracks) is ∙ r.tracks, (ap (λ x. length x.runs) is ∙ r.runs, (ap (λ x. length x.connections) is ∙ r.connections, ap (λ x. length x.settings) is ∙ length-set a.settings.now a.place a.setting ∙ r.settings)));
-      laying = (l.counts, (l.sums, l.befores));
-      working = (l.floors, (l.arcs, (l.tables, l.marks)));
-      written = (l.times, l.ring);
-    }
+    let R = λ (s : List ℕ). register_of t (memory a.numbers (lists a.tracks.now a.runs.now a.connections.now s)) in
+    let new = c.put_in_force.new in
+    let now = R (set a.settings.now a.place a.setting) in
+    let f = c.in_err-put_in_force.field-0.0 in
+    reckons_failed t a.trial.now new.times a.ring.now new.ring [] now f _ c.from_residual.ensures.1
+    (reckons t a.trial.now new.times a.ring.now new.ring [] (R c.bytes.result.now) now (failed (Unit {0}) f) tt (ap R c.bytes.ensures) c.in_err-put_in_force.ensures.reckons)
 
-pub returns-in_err-reckon_plan : goal.returns-in_err-reckon_plan
-returns-in_err-reckon_plan g c =
-    let t = g.K.Kind.time in
+pub returns-in_err-put_in_force-clause-records : goal.returns-in_err-put_in_force-clause-records
+returns-in_err-put_in_force-clause-records g c =
     let a = c.args in
-    let is : seen c.open_view.result ≡ open_memory a.plan.now a.tracks.now a.runs.now a.connections.now (set a.settings.now a.place a.setting) = c.open_view.ensures ∙ ap (open_memory a.plan.now a.tracks.now a.runs.now a.connections.now) c.bytes.ensures in
-    let f = c.in_err-reckon_plan.field-0.0 in
-    let told = c.in_err-reckon_plan.ensures in
-    let P : Memory g.row.K.Denot → Type 0 = λ m. TimesAfter t (register_of t m) a.trial.now c.reckon_plan.new.times (Err f) in
-    let Q : Memory g.row.K.Denot → Type 0 = λ m. RingAfter t (register_of t m) a.ring.now c.reckon_plan.new.ring (Err f) in
-    let p = err_from_is_err_and c.from_residual.result c.from_residual.ensures.1 in
-    rw (p.1, p.2) (record {
-      times = subst P is told.times;
-      ring = subst Q is told.ring;
-      cost = tt;
-      settings = c.drop-switched.ensures ∙ set-set a.settings.now a.place a.setting _ ∙ set-get_or a.settings.now a.place 0;
-    })
+    ap (lists a.tracks.now a.runs.now a.connections.now) (c.drop-switched.ensures ∙ set-set a.settings.now a.place a.setting _ ∙ set-get_or a.settings.now a.place 0)
 
-pub delay_cost-cost-requires : goal.delay_cost-cost-requires
-delay_cost-cost-requires g c =
+pub delay_cost-requires-clause-shown : goal.delay_cost-requires-clause-shown
+delay_cost-requires-clause-shown g c =
     let t = g.K.Kind.time in
     let a = c.args in
-    let m = open_memory a.plan.now a.tracks.now a.runs.now a.connections.now (set a.settings.now a.place a.setting) in
-    let is : seen c.open_view.result ≡ m = c.open_view.ensures ∙ ap (open_memory a.plan.now a.tracks.now a.runs.now a.connections.now) c.bytes.ensures in
-    let is_2 : seen c.open_view-2.result ≡ m = c.open_view-2.ensures ∙ ap (open_memory a.plan.now a.tracks.now a.runs.now a.connections.now) c.bytes-2.ensures in
-    let P : Memory g.row.K.Denot → Type 0 = Stored t in
-    let Q : Memory g.row.K.Denot → Type 0 = λ x. TimesAfter t (register_of t x) a.trial.now c.reckon_plan.new.times (Ok tt) in
-    let least = (subst Q is c.in_ok-reckon_plan.ensures.times).0 in
-    let few = c.requires.stored.few_runs in
-    let r = c.requires.records in
-    let long_runs = r.runs in
-    let l = c.requires.listed in
-    let long : length (take a.plan.now.runs a.runs.now) ≡ a.plan.now.runs = length-take-le a.plan.now.runs a.runs.now (omega arith) in
-    let S : ℕ → Type 0 = λ n. Shown t c.reckon_plan.new.times (2 * n) in
-    let shown : Shown t c.reckon_plan.new.times (2 * a.plan.now.runs) = record { each = λ v h. least_small t (register_of t m) c.requires.stored.limits g.met.K.Kind.laws (at t c.reckon_plan.new.times) least v (omega arith) } in
-    record {
-      stored = subst P (sym is_2) c.requires.stored;
-      lengths = (ap (λ x. length x.tracks) is_2 ∙ r.tracks, (ap (λ x. length x.runs) is_2 ∙ r.runs, (ap (λ x. length x.connections) is_2 ∙ r.connections, (ap (λ x. length x.settings) is_2 ∙ length-set a.settings.now a.place a.setting ∙ r.settings, c.reckon_plan.auto.times ∙ l.times))));
-      long = (c.reckon_plan.auto.counts ∙ l.counts, (c.reckon_plan.auto.sums ∙ l.sums, c.reckon_plan.auto.befores ∙ l.befores));
-      shown = subst S (sym (ap (λ x. x.run_count) is_2)) shown;
-    }
+    let R = λ (s : List ℕ). register_of t (memory a.numbers (lists a.tracks.now a.runs.now a.connections.now s)) in
+    let new = c.put_in_force.new in
+    let now = R (set a.settings.now a.place a.setting) in
+    let reckoned = reckons t a.trial.now new.times a.ring.now new.ring [] (R c.bytes.result.now) now (taken (Unit {0}) tt) tt (ap R c.bytes.ensures) c.in_ok-put_in_force.ensures.reckons in
+    let long = long_runs t (memory a.numbers (lists a.tracks.now a.runs.now a.connections.now (set a.settings.now a.place a.setting))) c.requires.records.runs c.requires.stored in
+    let shown : Shown t new.times (2 * a.numbers.runs) = record { each = λ v h. least_small t now c.requires.stored.limits g.met.K.Kind.laws (at t new.times) reckoned.shows.0 v (omega arith) } in
+    subst (λ (n : ℕ). Shown t new.times (2 * n)) (sym (ap (λ x. x.run_count) c.view-v.ensures)) shown
 
-pub returns : goal.returns
-returns g c =
+pub returns-clause-reckons : goal.returns-clause-reckons
+returns-clause-reckons g c =
     let t = g.K.Kind.time in
     let a = c.args in
-    let m = open_memory a.plan.now a.tracks.now a.runs.now a.connections.now (set a.settings.now a.place a.setting) in
-    let is : seen c.open_view.result ≡ m = c.open_view.ensures ∙ ap (open_memory a.plan.now a.tracks.now a.runs.now a.connections.now) c.bytes.ensures in
-    let is_2 : seen c.open_view-2.result ≡ m = c.open_view-2.ensures ∙ ap (open_memory a.plan.now a.tracks.now a.runs.now a.connections.now) c.bytes-2.ensures in
-    let told = c.in_ok-reckon_plan.ensures in
-    let P : Memory g.row.K.Denot → Type 0 = λ x. TimesAfter t (register_of t x) a.trial.now c.reckon_plan.new.times (Ok tt) in
-    let Q : Memory g.row.K.Denot → Type 0 = λ x. RingAfter t (register_of t x) a.ring.now c.reckon_plan.new.ring (Ok tt) in
-    record {
-      times = subst P is told.times;
-      ring = subst Q is told.ring;
-      cost = c.delay_cost-cost.ensures ∙ ap (λ x. delay_cost_lem t (register_of t x) (at t c.reckon_plan.new.times)) is_2;
-      settings = c.drop-switched-2.ensures ∙ set-set a.settings.now a.place a.setting _ ∙ set-get_or a.settings.now a.place 0;
-    }
+    let R = λ (s : List ℕ). register_of t (memory a.numbers (lists a.tracks.now a.runs.now a.connections.now s)) in
+    let new = c.put_in_force.new in
+    let now = R (set a.settings.now a.place a.setting) in
+    reckons_taken t a.trial.now new.times a.ring.now new.ring [] now tt c.delay_cost.result
+    (reckons t a.trial.now new.times a.ring.now new.ring [] (R c.bytes.result.now) now (taken (Unit {0}) tt) tt (ap R c.bytes.ensures) c.in_ok-put_in_force.ensures.reckons)
+
+pub returns-clause-records : goal.returns-clause-records
+returns-clause-records g c =
+    let a = c.args in
+    ap (lists a.tracks.now a.runs.now a.connections.now) (c.drop-switched-2.ensures ∙ set-set a.settings.now a.place a.setting _ ∙ set-get_or a.settings.now a.place 0)

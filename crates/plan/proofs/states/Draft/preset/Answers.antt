@@ -1,8 +1,9 @@
-use Rattle.std.proofs.Common.{refl}
-use Rattle.std.proofs.lemmas.Result.{err_from_is_err_and}
+use Rattle.records.specs.Lent.{lists_mut}
+use Rattle.plan.specs.States.{memory}
+use Rattle.plan.specs.Drafting.{preset_call_rows}
+use Rattle.plan.proofs.Told.{left_answers}
 use Rattle.plan.proofs.states.Draft.preset.Goals as goal
 
-pub returns-in_err-admit_preset : goal.returns-in_err-admit_preset
-returns-in_err-admit_preset g c =
-    let p = err_from_is_err_and c.from_residual.result c.from_residual.ensures.1 in
-    rw (p.1, p.2) (record { rows = c.in_err-admit_preset.ensures.rows; writes = refl })
+pub returns-in_err-place-clause-rows : goal.returns-in_err-place-clause-rows
+returns-in_err-place-clause-rows g c =
+    left_answers _ _ c.from_residual.ensures.1 (preset_call_rows g.K.Kind.time (memory c.args.self.now.numbers (lists_mut c.args.records.now)) c.args.switch c.args.setting) c.in_err-place.ensures.rows

@@ -1,78 +1,56 @@
-use Rattle.std.proofs.Common.{◌≡◌, ℕ, ◌+◌, ◌-◌, ◌<◌, List, take, sym, refl, ap, ◌∙◌, subst, arith}
-use Rattle.std.proofs.lemmas.Result.{err_from_is_err_and}
+use Rattle.std.proofs.Common.{◌≡◌, ℕ, ◌+◌, ◌-◌, ◌<◌, List, set, sym, refl, ap, ◌∙◌, subst, arith}
 use Rattle.records.specs.declared.Run.{Run}
 use Rattle.records.specs.Records.{track_of_lem}
-use Rattle.records.specs.Places.{total, count}
-use Rattle.plan.specs.States.{draft_memory}
-use Rattle.plan.specs.Steps.{unused}
-use Rattle.plan.specs.Drafting.{cleared}
-use Rattle.plan.proofs.Entering.{fits, long_runs, on_tracks, on_tracks_more, orders_parts}
+use Rattle.records.specs.Lent.{lists_mut}
+use Rattle.plan.specs.States.{memory}
+use Rattle.plan.specs.Steps.{unused, cleared, orders_entered, orders_added}
+use Rattle.plan.specs.Drafting.{run_call_rows}
+use Rattle.plan.proofs.Told.{left_answers}
+use Rattle.plan.proofs.Entering.{on_tracks, on_tracks_more, orders_parts}
 use Rattle.plan.proofs.states.Draft.run.Goals as goal
+use Rattle.plan.proofs.states.Draft.run.Goals.{After-orders_below}
+use Rattle.plan.proofs.states.Draft.run.Given.{Over}
 
-pub returns-in_err-admit_run : goal.returns-in_err-admit_run
-returns-in_err-admit_run g c =
-    let p = err_from_is_err_and c.from_residual.result c.from_residual.ensures.1 in
-    rw (p.1, p.2) (record { rows = c.in_err-admit_run.ensures.rows; writes = (refl, (refl, refl)) })
+pub returns-in_err-admit_run-clause-rows : goal.returns-in_err-admit_run-clause-rows
+returns-in_err-admit_run-clause-rows g c =
+    left_answers _ _ c.from_residual.ensures.1 (run_call_rows g.K.Kind.time (memory c.args.self.now.numbers (lists_mut c.args.records.now)) c.args.run) c.in_err-admit_run.ensures.rows
 
-pub orders_below-first-requires : goal.orders_below-first-requires
-orders_below-first-requires g c =
-    let a = c.args in
-    let m = draft_memory a.self.now a.tracks.now a.runs.now a.connections.now a.settings.now in
-    let room = c.in_ok-admit_run.ensures.room in
-    record {
-      inside = (fits g.K.Kind.time m room.0).1.0;
-      few = room.0.stored.few_runs;
-      tracks = on_tracks g.K.Kind.time m room.0;
-    }
-
-pub orders_below-requires : goal.orders_below-requires
-orders_below-requires g c =
+pub orders_below-first-requires-clause-tracks : goal.orders_below-first-requires-clause-tracks
+orders_below-first-requires-clause-tracks g c =
     let t = g.K.Kind.time in
     let a = c.args in
-    let n = a.self.now.runs in
-    let m = draft_memory a.self.now a.tracks.now a.runs.now a.connections.now a.settings.now in
+    let n = a.self.now.numbers in
+    subst (λ (xs : List (Run g.row.K.Denot)). (k : ℕ) → k < n.runs → track_of_lem t xs k < 64) (sym (ap (λ x. x.runs) c.lent.ensures)) (on_tracks t (memory n (lists_mut a.records.now)) c.in_ok-admit_run.ensures.room.0)
+
+pub orders_below-requires-clause-tracks : goal.orders_below-requires-clause-tracks
+orders_below-requires-clause-tracks g c =
+    let t = g.K.Kind.time in
+    let a = c.args in
+    let n = a.self.now.numbers in
     let room = c.in_ok-admit_run.ensures.room in
-    let P : List (Run g.row.K.Denot) → Type 0 = λ xs. (k : ℕ) → k < n + 1 → track_of_lem t xs k < 64 in
-    record {
-      inside = omega (arith, c.put_unused.auto.runs, room.0.listed.runs, room.1.0);
-      few = omega (arith, room.1.0);
-      tracks = subst P (sym c.put_unused.ensures) (on_tracks_more t m room.0 (unused a.run) room.1.0 room.1.1.0);
-    }
+    subst (λ (xs : List (Run g.row.K.Denot)). (k : ℕ) → k < n.runs + 1 → track_of_lem t xs k < 64) (sym (ap (λ x. x.runs) c.lent-2.ensures ∙ c.put.ensures)) (on_tracks_more t (memory n (lists_mut a.records.now)) room.0 (unused a.run) room.1.0 room.1.1.0)
+
+parts : (g : Over) (c : After-orders_below g) → (c.orders_below-first.result ≡ orders_entered g.K.Kind.time (memory c.args.self.now.numbers (lists_mut c.args.records.now))) × (c.orders_below.result ≡ orders_entered g.K.Kind.time (memory c.args.self.now.numbers (lists_mut c.args.records.now)) + orders_added g.K.Kind.time (memory c.args.self.now.numbers (lists_mut c.args.records.now)) c.args.run.track)
+parts g c =
+    let a = c.args in
+    let m = memory a.self.now.numbers (lists_mut a.records.now) in
+    let room = c.in_ok-admit_run.ensures.room in
+    orders_parts g.K.Kind.time m room.0 (unused a.run) room.1.0 _ _ _ _ (ap (λ x. x.runs) c.lent.ensures) c.orders_below-first.ensures (ap (λ x. x.runs) c.lent-2.ensures ∙ c.put.ensures) c.orders_below.ensures
 
 pub overflow_sub-number : goal.overflow_sub-number
-overflow_sub-number g c =
-    let t = g.K.Kind.time in
-    let a = c.args in
-    let m = draft_memory a.self.now a.tracks.now a.runs.now a.connections.now a.settings.now in
-    let room = c.in_ok-admit_run.ensures.room in
-    let h = orders_parts t m room.0 (unused a.run) room.1.0 _ _ _ c.orders_below-first.ensures c.put_unused.ensures c.orders_below.ensures in omega (arith, h.0, h.1)
+overflow_sub-number g c = let h = parts g c in omega arith
 
 pub clear-requires : goal.clear-requires
 clear-requires g c =
-    let t = g.K.Kind.time in
-    let a = c.args in
-    let m = draft_memory a.self.now a.tracks.now a.runs.now a.connections.now a.settings.now in
-    let f = track_of_lem t (take a.self.now.runs a.runs.now) in
     let room = c.in_ok-admit_run.ensures.room in
-    let h = orders_parts t m room.0 (unused a.run) room.1.0 _ _ _ c.orders_below-first.ensures c.put_unused.ensures c.orders_below.ensures in
-    let long = ap (λ (i : ℕ). total f i + count f a.run.track i) (long_runs t m room.0) in omega (arith, h.0, h.1, room.1.1.1, room.0.listed.settings)
+    let h = parts g (goal.at.clear-requires g c).After-orders_below in omega (arith, h.0, h.1, room.1.1.1, room.0.listed.settings)
 
-pub returns : goal.returns
-returns g c =
+pub returns-clause-writes : goal.returns-clause-writes
+returns-clause-writes g c =
     let t = g.K.Kind.time in
     let a = c.args in
-    let m = draft_memory a.self.now a.tracks.now a.runs.now a.connections.now a.settings.now in
-    let room = c.in_ok-admit_run.ensures.room in
-    let n = a.self.now.runs in
-    let f = track_of_lem t (take n a.runs.now) in
-    let h = orders_parts t m room.0 (unused a.run) room.1.0 _ _ _ c.orders_below-first.ensures c.put_unused.ensures c.orders_below.ensures in
-    let new : c.orders_below.result - c.orders_below-first.result ≡ count f a.run.track n = omega (arith, h.0, h.1) in
-    record {
-      rows = c.in_ok-admit_run.ensures.rows;
-      writes = record {
-        last = refl;
-        written = c.put_unused.ensures;
-        ahead = c.clear.ensures ∙ ap (λ (i : ℕ). cleared a.settings.now i (c.orders_below.result - c.orders_below-first.result)) h.0 ∙ ap (cleared a.settings.now (total f n)) new;
-        counted = refl;
-      };
-    }
+    let m = memory a.self.now.numbers (lists_mut a.records.now) in
+    let h = parts g (goal.at.returns-clause-writes g c).After-orders_below in
+    let new : c.orders_below.result - c.orders_below-first.result ≡ orders_added t m a.run.track = omega arith in
+    let settings = c.clear.ensures ∙ ap (λ (i : ℕ). cleared a.records.now.settings.now i (c.orders_below.result - c.orders_below-first.result)) h.0 ∙ ap (cleared a.records.now.settings.now (orders_entered t m)) new in
+    (refl, ap (λ (x : List (Run g.row.K.Denot)). record m { runs = x; settings = c.clear.new.bytes; run_count = m.run_count + 1 }) c.put.ensures ∙ ap (λ (x : List ℕ). record m { runs = set m.runs m.run_count (unused a.run); settings = x; run_count = m.run_count + 1 }) settings)

@@ -1,7 +1,9 @@
-use Rattle.std.proofs.lemmas.Result.{err_from_is_err_and}
+use Rattle.records.specs.Lent.{lists_in}
+use Rattle.plan.specs.States.{memory}
+use Rattle.plan.specs.Drafting.{setting_call_rows}
+use Rattle.plan.proofs.Told.{left_answers}
 use Rattle.plan.proofs.states.Draft.setting.Goals as goal
 
-pub returns-in_err-admit_switch : goal.returns-in_err-admit_switch
-returns-in_err-admit_switch g c =
-    let p = err_from_is_err_and c.from_residual.result c.from_residual.ensures.1 in
-    rw (p.1, p.2) (record { rows = c.in_err-admit_switch.ensures.rows; reads = tt })
+pub returns-in_err-v-clause-rows : goal.returns-in_err-v-clause-rows
+returns-in_err-v-clause-rows g c =
+    left_answers _ _ c.from_residual.ensures.1 (setting_call_rows g.K.Kind.time (memory c.args.self.now.numbers (lists_in c.args.records)) c.args.switch) c.in_err-v.ensures.rows

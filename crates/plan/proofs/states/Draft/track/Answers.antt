@@ -1,8 +1,9 @@
-use Rattle.std.proofs.Common.{refl}
-use Rattle.std.proofs.lemmas.Result.{err_from_is_err_and}
+use Rattle.records.specs.Lent.{lists_mut}
+use Rattle.plan.specs.States.{memory}
+use Rattle.plan.specs.Drafting.{track_call_rows}
+use Rattle.plan.proofs.Told.{left_answers}
 use Rattle.plan.proofs.states.Draft.track.Goals as goal
 
-pub returns-in_err-admit_track : goal.returns-in_err-admit_track
-returns-in_err-admit_track g c =
-    let p = err_from_is_err_and c.from_residual.result c.from_residual.ensures.1 in
-    rw (p.1, p.2) (record { rows = c.in_err-admit_track.ensures.rows; writes = (refl, refl) })
+pub returns-in_err-admit_track-clause-rows : goal.returns-in_err-admit_track-clause-rows
+returns-in_err-admit_track-clause-rows g c =
+    left_answers _ _ c.from_residual.ensures.1 (track_call_rows g.K.Kind.time (memory c.args.self.now.numbers (lists_mut c.args.records.now)) c.args.track) c.in_err-admit_track.ensures.rows

@@ -1,76 +1,42 @@
-use Rattle.std.proofs.Common.{◌≡◌, length, set, Some, Ok, Err, sym, refl, ap, ◌∙◌, subst, arith}
-use Rattle.std.proofs.lemmas.Result.{err_from_is_err_and}
+use Rattle.std.proofs.Common.{length, set, ap, Some, arith}
 use Rattle.records.specs.declared.Run.{Run}
-use Rattle.records.specs.Records.{run_at}
+use Rattle.records.specs.Lent.{lists_mut}
 use Rattle.records.specs.Register.{register_of}
-use Rattle.records.specs.Stored.{Stored}
-use Rattle.force.specs.Reckoned.{TimesAfter, RingAfter}
-use Rattle.plan.specs.declared.states.Slip.{Slip}
-use Rattle.plan.specs.States.{open_memory}
-use Rattle.plan.specs.Steps.{holding, hold_memory}
+use Rattle.force.specs.Work.{work_lengths}
+use Rattle.plan.specs.States.{memory}
+use Rattle.plan.specs.Steps.{with_runs, holding, hold_memory}
 use Rattle.plan.specs.Calls.{lengths, hold_call_rows}
-use Rattle.plan.proofs.Reckoned.{reckoned_ok, reckoned_err, refused}
+use Rattle.plan.proofs.Told.{written}
+use Rattle.plan.proofs.Reckoned.{taken, failed, refused, reckons, reckons_taken, reckons_failed}
 use Rattle.plan.proofs.states.Open.hold.Goals as goal
 
-pub returns-in_err-admit_hold : goal.returns-in_err-admit_hold
-returns-in_err-admit_hold g c =
+pub returns-in_err-admit_hold-clause-reckons : goal.returns-in_err-admit_hold-clause-reckons
+returns-in_err-admit_hold-clause-reckons g c =
     let t = g.K.Kind.time in
     let a = c.args in
-    let l = lengths (length a.times.now) (length a.ring.now) (length a.counts.now) (length a.sums.now) (length a.befores.now) (length a.floors.now) (length a.arcs.now) (length a.tables.now) (length a.marks.now) in
-    let m = open_memory a.self.now a.tracks.now a.runs.now a.connections.now a.settings.now in
-    let p = err_from_is_err_and c.from_residual.result c.from_residual.ensures.1 in
-    rw (p.1, p.2) (record {
-      reckons = refused t (hold_call_rows t l m a.times.now a.run a.until) (register_of t (hold_memory t m a.run (Some a.until))) Slip (omega arith, (omega arith, (omega arith, (omega arith, (omega arith, (omega arith, (omega arith, (omega arith, (omega arith, tt))))))))) a.times.now a.ring.now _ c.in_err-admit_hold.ensures.rows;
-      runs = refl;
-      slip = tt;
-    })
+    let m = memory a.self.now.numbers (lists_mut a.records.now) in
+    let rows = hold_call_rows t (lengths (length a.times.now) (length a.ring.now) (work_lengths a.work.now)) m a.times.now a.run a.until in
+    refused t rows (register_of t (hold_memory t m a.run (Some a.until))) (omega arith, (omega arith, (omega arith, (omega arith, (omega arith, (omega arith, (omega arith, (omega arith, (omega arith, tt))))))))) a.times.now a.ring.now _ _ c.from_residual.ensures.1 c.in_err-admit_hold.ensures.rows
 
-pub replace_run-requires : goal.replace_run-requires
-replace_run-requires g c =
+pub returns-in_err-replace_run-clause-reckons : goal.returns-in_err-replace_run-clause-reckons
+returns-in_err-replace_run-clause-reckons g c =
     let t = g.K.Kind.time in
     let a = c.args in
-    let ready = c.in_ok-admit_hold.ensures.ready in
-    let r = a.run in
-    let is : c.with_hold-marked.result ≡ holding (run_at t a.runs.now r) (Some a.until) = c.with_hold-marked.ensures ∙ ap (λ x. holding x (Some a.until)) c.run_of.ensures in
-    let P : Run g.row.K.Denot → Type 0 = λ x. Stored t (open_memory a.self.now a.tracks.now (set a.runs.now r x) a.connections.now a.settings.now) in
-    record {
-      inside = ready.0;
-      records = ready.1.records;
-      listed = ready.1.listed;
-      stored = subst P (sym is) ready.1.stored;
-    }
+    let m = memory a.self.now.numbers (lists_mut a.records.now) in
+    let rows = hold_call_rows t (lengths (length a.times.now) (length a.ring.now) (work_lengths a.work.now)) m a.times.now a.run a.until in
+    let new = c.replace_run.new in
+    let known = c.in_ok-admit_hold.ensures in
+    let f = c.in_err-replace_run.field-0.0 in
+    reckons_failed t a.times.now new.times a.ring.now new.ring rows (register_of t (hold_memory t m a.run (Some a.until))) f _ c.from_residual-in_err-replace_run.ensures.1
+    (reckons t a.times.now new.times a.ring.now new.ring rows (register_of t (with_runs m (set a.records.now.runs.now (a.run) c.with_hold-held.result))) (register_of t (hold_memory t m a.run (Some a.until))) (failed (Unit {0}) f) known.rows (ap (register_of t) (written t m (a.run) (λ (x : Run g.row.K.Denot). holding x (Some a.until)) _ _ known.ready.0 c.with_hold-held.ensures)) c.in_err-replace_run.ensures.reckons)
 
-pub returns-in_err-replace_run : goal.returns-in_err-replace_run
-returns-in_err-replace_run g c =
+pub returns-clause-reckons : goal.returns-clause-reckons
+returns-clause-reckons g c =
     let t = g.K.Kind.time in
     let a = c.args in
-    let r = a.run in
-    let l = lengths (length a.times.now) (length a.ring.now) (length a.counts.now) (length a.sums.now) (length a.befores.now) (length a.floors.now) (length a.arcs.now) (length a.tables.now) (length a.marks.now) in
-    let m = open_memory a.self.now a.tracks.now a.runs.now a.connections.now a.settings.now in
-    let is : c.with_hold-marked.result ≡ holding (run_at t a.runs.now r) (Some a.until) = c.with_hold-marked.ensures ∙ ap (λ x. holding x (Some a.until)) c.run_of.ensures in
-    let p = err_from_is_err_and c.from_residual-in_err-replace_run.result c.from_residual-in_err-replace_run.ensures.1 in
-    let told = c.in_err-replace_run.ensures in
-    let P : Run g.row.K.Denot → Type 0 = λ x. TimesAfter t (register_of t (open_memory a.self.now a.tracks.now (set a.runs.now r x) a.connections.now a.settings.now)) a.times.now c.replace_run.new.times (Err c.in_err-replace_run.field-0.0) in
-    let Q : Run g.row.K.Denot → Type 0 = λ x. RingAfter t (register_of t (open_memory a.self.now a.tracks.now (set a.runs.now r x) a.connections.now a.settings.now)) a.ring.now c.replace_run.new.ring (Err c.in_err-replace_run.field-0.0) in
-    rw (p.1, p.2) (record {
-      reckons = reckoned_err t (hold_call_rows t l m a.times.now a.run a.until) (register_of t (hold_memory t m a.run (Some a.until))) Slip c.in_err-replace_run.field-0.0 c.in_ok-admit_hold.ensures.rows a.times.now c.replace_run.new.times a.ring.now c.replace_run.new.ring (subst P is told.times) (subst Q is told.ring);
-      runs = told.runs;
-      slip = tt;
-    })
-
-pub returns : goal.returns
-returns g c =
-    let t = g.K.Kind.time in
-    let a = c.args in
-    let r = a.run in
-    let l = lengths (length a.times.now) (length a.ring.now) (length a.counts.now) (length a.sums.now) (length a.befores.now) (length a.floors.now) (length a.arcs.now) (length a.tables.now) (length a.marks.now) in
-    let m = open_memory a.self.now a.tracks.now a.runs.now a.connections.now a.settings.now in
-    let is : c.with_hold-marked.result ≡ holding (run_at t a.runs.now r) (Some a.until) = c.with_hold-marked.ensures ∙ ap (λ x. holding x (Some a.until)) c.run_of.ensures in
-    let told = c.in_ok-replace_run.ensures in
-    let P : Run g.row.K.Denot → Type 0 = λ x. TimesAfter t (register_of t (open_memory a.self.now a.tracks.now (set a.runs.now r x) a.connections.now a.settings.now)) a.times.now c.replace_run.new.times (Ok tt) in
-    let Q : Run g.row.K.Denot → Type 0 = λ x. RingAfter t (register_of t (open_memory a.self.now a.tracks.now (set a.runs.now r x) a.connections.now a.settings.now)) a.ring.now c.replace_run.new.ring (Ok tt) in
-    record {
-      reckons = reckoned_ok t (hold_call_rows t l m a.times.now a.run a.until) (register_of t (hold_memory t m a.run (Some a.until))) Slip (record { plan = a.self.now.number; run = a.run }) c.in_ok-admit_hold.ensures.rows a.times.now c.replace_run.new.times a.ring.now c.replace_run.new.ring (subst P is told.times) (subst Q is told.ring);
-      runs = told.runs ∙ ap (set a.runs.now r) is;
-      slip = (refl, refl);
-    }
+    let m = memory a.self.now.numbers (lists_mut a.records.now) in
+    let rows = hold_call_rows t (lengths (length a.times.now) (length a.ring.now) (work_lengths a.work.now)) m a.times.now a.run a.until in
+    let new = c.replace_run.new in
+    let known = c.in_ok-admit_hold.ensures in
+    reckons_taken t a.times.now new.times a.ring.now new.ring rows (register_of t (hold_memory t m a.run (Some a.until))) tt _
+    (reckons t a.times.now new.times a.ring.now new.ring rows (register_of t (with_runs m (set a.records.now.runs.now (a.run) c.with_hold-held.result))) (register_of t (hold_memory t m a.run (Some a.until))) (taken (Unit {0}) tt) known.rows (ap (register_of t) (written t m (a.run) (λ (x : Run g.row.K.Denot). holding x (Some a.until)) _ _ known.ready.0 c.with_hold-held.ensures)) c.in_ok-replace_run.ensures.reckons)

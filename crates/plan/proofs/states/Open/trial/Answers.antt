@@ -1,71 +1,39 @@
-use Rattle.std.proofs.Common.{ℕ, length, set, Ok, Err, sym, refl, ap, ◌∙◌, subst}
-use Rattle.std.proofs.lemmas.Result.{err_from_is_err_and}
-use Rattle.records.specs.Register.{register_of}
-use Rattle.records.specs.Stored.{Stored}
-use Rattle.force.specs.Reckoned.{TimesAfter, RingAfter}
+use Rattle.std.proofs.Common.{◌≡◌, ℕ, length, set, ap, ◌∙◌}
+use Rattle.std.proofs.lemmas.Result.{IfOk-weaker}
 use Rattle.network.specs.Reckoning.{at}
+use Rattle.records.specs.Lent.{lists_mut}
+use Rattle.records.specs.Register.{register_of}
+use Rattle.force.specs.Work.{work_lengths}
 use Rattle.cost.specs.Cost.{delay_cost_lem}
-use Rattle.plan.specs.States.{open_memory}
-use Rattle.plan.specs.Steps.{switch_memory}
+use Rattle.plan.specs.States.{memory}
+use Rattle.plan.specs.Steps.{with_settings, switch_memory}
 use Rattle.plan.specs.Calls.{lengths, turning_call_rows}
-use Rattle.plan.proofs.Reckoned.{reckoned_ok, reckoned_err, refused, turning_under}
+use Rattle.plan.proofs.Reckoned.{refused, reckons, turning_under}
 use Rattle.plan.proofs.states.Open.trial.Goals as goal
 
-pub returns-in_err-place : goal.returns-in_err-place
-returns-in_err-place g c =
+pub returns-in_err-place-clause-reckons : goal.returns-in_err-place-clause-reckons
+returns-in_err-place-clause-reckons g c =
     let t = g.K.Kind.time in
     let a = c.args in
-    let l = lengths (length a.trial.now) (length a.ring.now) (length a.counts.now) (length a.sums.now) (length a.befores.now) (length a.floors.now) (length a.arcs.now) (length a.tables.now) (length a.marks.now) in
-    let m = open_memory a.self.now a.tracks.now a.runs.now a.connections.now a.settings.now in
-    let p = err_from_is_err_and c.from_residual.result c.from_residual.ensures.1 in
-    rw (p.1, p.2) (record {
-      reckons = refused t (turning_call_rows t l m a.times.now a.switch a.setting) (register_of t (switch_memory t m a.switch a.setting)) ℕ (turning_under t l m a.times.now a.switch a.setting) a.trial.now a.ring.now _ c.in_err-place.ensures.rows;
-      cost = tt;
-      settings = refl;
-    })
+    let m = memory a.self.now.numbers (lists_mut a.records.now) in
+    let l = lengths (length a.trial.now) (length a.ring.now) (work_lengths a.work.now) in
+    refused t (turning_call_rows t l m a.times.now a.switch a.setting) (register_of t (switch_memory t m a.switch a.setting)) (turning_under t l m a.times.now a.switch a.setting) a.trial.now a.ring.now _ _ c.from_residual.ensures.1 c.in_err-place.ensures.rows
 
-pub try_setting-requires : goal.try_setting-requires
-try_setting-requires g c =
+pub returns-clause-reckons : goal.returns-clause-reckons
+returns-clause-reckons g c =
     let t = g.K.Kind.time in
     let a = c.args in
-    let ready = c.in_ok-place.ensures.ready in
-    let P : ℕ → Type 0 = λ p. Stored t (open_memory a.self.now a.tracks.now a.runs.now a.connections.now (set a.settings.now p a.setting)) in
-    record {
-      inside = ready.1;
-      records = ready.2.records;
-      listed = ready.2.listed;
-      stored = subst P (sym ready.0) ready.2.stored;
-    }
+    let m = memory a.self.now.numbers (lists_mut a.records.now) in
+    let l = lengths (length a.trial.now) (length a.ring.now) (work_lengths a.work.now) in
+    let known = c.in_ok-place.ensures in
+    let R = λ (p : ℕ). register_of t (with_settings m (set a.records.now.settings.now p a.setting)) in
+    reckons t a.trial.now c.try_setting.new.trial a.ring.now c.try_setting.new.ring (turning_call_rows t l m a.times.now a.switch a.setting) (R _) (R _) c.try_setting.result known.rows (ap R known.ready.0) c.try_setting.ensures.reckons
 
-pub returns-in_err-cost : goal.returns-in_err-cost
-returns-in_err-cost g c =
+pub returns-clause-cost : goal.returns-clause-cost
+returns-clause-cost g c =
     let t = g.K.Kind.time in
     let a = c.args in
-    let l = lengths (length a.trial.now) (length a.ring.now) (length a.counts.now) (length a.sums.now) (length a.befores.now) (length a.floors.now) (length a.arcs.now) (length a.tables.now) (length a.marks.now) in
-    let m = open_memory a.self.now a.tracks.now a.runs.now a.connections.now a.settings.now in
-    let is = c.in_ok-place.ensures.ready.0 in
-    let p = err_from_is_err_and c.from_residual-in_err-cost.result c.from_residual-in_err-cost.ensures.1 in
-    let told = c.in_err-cost.ensures in
-    let P : ℕ → Type 0 = λ x. TimesAfter t (register_of t (open_memory a.self.now a.tracks.now a.runs.now a.connections.now (set a.settings.now x a.setting))) a.trial.now c.try_setting.new.trial (Err c.in_err-cost.field-0.0) in
-    let Q : ℕ → Type 0 = λ x. RingAfter t (register_of t (open_memory a.self.now a.tracks.now a.runs.now a.connections.now (set a.settings.now x a.setting))) a.ring.now c.try_setting.new.ring (Err c.in_err-cost.field-0.0) in
-    rw (p.1, p.2) (record {
-      reckons = reckoned_err t (turning_call_rows t l m a.times.now a.switch a.setting) (register_of t (switch_memory t m a.switch a.setting)) ℕ c.in_err-cost.field-0.0 c.in_ok-place.ensures.rows a.trial.now c.try_setting.new.trial a.ring.now c.try_setting.new.ring (subst P is told.times) (subst Q is told.ring);
-      cost = tt;
-      settings = told.settings;
-    })
-
-pub returns : goal.returns
-returns g c =
-    let t = g.K.Kind.time in
-    let a = c.args in
-    let l = lengths (length a.trial.now) (length a.ring.now) (length a.counts.now) (length a.sums.now) (length a.befores.now) (length a.floors.now) (length a.arcs.now) (length a.tables.now) (length a.marks.now) in
-    let m = open_memory a.self.now a.tracks.now a.runs.now a.connections.now a.settings.now in
-    let is = c.in_ok-place.ensures.ready.0 in
-    let told = c.in_ok-cost.ensures in
-    let P : ℕ → Type 0 = λ x. TimesAfter t (register_of t (open_memory a.self.now a.tracks.now a.runs.now a.connections.now (set a.settings.now x a.setting))) a.trial.now c.try_setting.new.trial (Ok tt) in
-    let Q : ℕ → Type 0 = λ x. RingAfter t (register_of t (open_memory a.self.now a.tracks.now a.runs.now a.connections.now (set a.settings.now x a.setting))) a.ring.now c.try_setting.new.ring (Ok tt) in
-    record {
-      reckons = reckoned_ok t (turning_call_rows t l m a.times.now a.switch a.setting) (register_of t (switch_memory t m a.switch a.setting)) ℕ _ c.in_ok-place.ensures.rows a.trial.now c.try_setting.new.trial a.ring.now c.try_setting.new.ring (subst P is told.times) (subst Q is told.ring);
-      cost = told.cost ∙ ap (λ x. delay_cost_lem t (register_of t (open_memory a.self.now a.tracks.now a.runs.now a.connections.now (set a.settings.now x a.setting))) (at t c.try_setting.new.trial)) is;
-      settings = told.settings;
-    }
+    let m = memory a.self.now.numbers (lists_mut a.records.now) in
+    let new = c.try_setting.new in
+    let told = λ (p : ℕ). delay_cost_lem t (register_of t (with_settings m (set a.records.now.settings.now p a.setting))) (at t new.trial) in
+    IfOk-weaker c.try_setting.result (λ n. n ≡ told _) (λ n. n ≡ told _) (λ n e. e ∙ ap told c.in_ok-place.ensures.ready.0) c.try_setting.ensures.cost

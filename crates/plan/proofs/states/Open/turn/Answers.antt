@@ -1,66 +1,27 @@
-use Rattle.std.proofs.Common.{ℕ, length, set, Ok, Err, sym, refl, ap, ◌∙◌, subst}
-use Rattle.std.proofs.lemmas.Result.{err_from_is_err_and}
+use Rattle.std.proofs.Common.{ℕ, length, set, ap}
+use Rattle.records.specs.Lent.{lists_mut}
 use Rattle.records.specs.Register.{register_of}
-use Rattle.records.specs.Stored.{Stored}
-use Rattle.force.specs.Reckoned.{TimesAfter, RingAfter}
-use Rattle.plan.specs.States.{open_memory}
-use Rattle.plan.specs.Steps.{switch_memory}
+use Rattle.force.specs.Work.{work_lengths}
+use Rattle.plan.specs.States.{memory}
+use Rattle.plan.specs.Steps.{with_settings, switch_memory}
 use Rattle.plan.specs.Calls.{lengths, turning_call_rows}
-use Rattle.plan.proofs.Reckoned.{reckoned, refused, turning_under}
+use Rattle.plan.proofs.Reckoned.{refused, reckons, turning_under}
 use Rattle.plan.proofs.states.Open.turn.Goals as goal
 
-pub returns-in_err-place : goal.returns-in_err-place
-returns-in_err-place g c =
+pub returns-in_err-place-clause-reckons : goal.returns-in_err-place-clause-reckons
+returns-in_err-place-clause-reckons g c =
     let t = g.K.Kind.time in
     let a = c.args in
-    let l = lengths (length a.times.now) (length a.ring.now) (length a.counts.now) (length a.sums.now) (length a.befores.now) (length a.floors.now) (length a.arcs.now) (length a.tables.now) (length a.marks.now) in
-    let m = open_memory a.self.now a.tracks.now a.runs.now a.connections.now a.settings.now in
-    let p = err_from_is_err_and c.from_residual.result c.from_residual.ensures.1 in
-    rw (p.1, p.2) (record {
-      reckons = refused t (turning_call_rows t l m a.times.now a.switch a.setting) (register_of t (switch_memory t m a.switch a.setting)) (Unit {0}) (turning_under t l m a.times.now a.switch a.setting) a.times.now a.ring.now _ c.in_err-place.ensures.rows;
-      settings = refl;
-    })
+    let m = memory a.self.now.numbers (lists_mut a.records.now) in
+    let l = lengths (length a.times.now) (length a.ring.now) (work_lengths a.work.now) in
+    refused t (turning_call_rows t l m a.times.now a.switch a.setting) (register_of t (switch_memory t m a.switch a.setting)) (turning_under t l m a.times.now a.switch a.setting) a.times.now a.ring.now _ _ c.from_residual.ensures.1 c.in_err-place.ensures.rows
 
-pub replace_setting-requires : goal.replace_setting-requires
-replace_setting-requires g c =
+pub returns-clause-reckons : goal.returns-clause-reckons
+returns-clause-reckons g c =
     let t = g.K.Kind.time in
     let a = c.args in
-    let ready = c.in_ok-place.ensures.ready in
-    let P : ℕ → Type 0 = λ p. Stored t (open_memory a.self.now a.tracks.now a.runs.now a.connections.now (set a.settings.now p a.setting)) in
-    record {
-      inside = ready.1;
-      records = ready.2.records;
-      listed = ready.2.listed;
-      stored = subst P (sym ready.0) ready.2.stored;
-    }
-
-pub returns-in_err-replace_setting : goal.returns-in_err-replace_setting
-returns-in_err-replace_setting g c =
-    let t = g.K.Kind.time in
-    let a = c.args in
-    let l = lengths (length a.times.now) (length a.ring.now) (length a.counts.now) (length a.sums.now) (length a.befores.now) (length a.floors.now) (length a.arcs.now) (length a.tables.now) (length a.marks.now) in
-    let m = open_memory a.self.now a.tracks.now a.runs.now a.connections.now a.settings.now in
-    let is = c.in_ok-place.ensures.ready.0 in
-    let p = err_from_is_err_and c.from_residual-in_err-replace_setting.result c.from_residual-in_err-replace_setting.ensures.1 in
-    let told = c.in_err-replace_setting.ensures in
-    let P : ℕ → Type 0 = λ x. TimesAfter t (register_of t (open_memory a.self.now a.tracks.now a.runs.now a.connections.now (set a.settings.now x a.setting))) a.times.now c.replace_setting.new.times (Err c.in_err-replace_setting.field-0.0) in
-    let Q : ℕ → Type 0 = λ x. RingAfter t (register_of t (open_memory a.self.now a.tracks.now a.runs.now a.connections.now (set a.settings.now x a.setting))) a.ring.now c.replace_setting.new.ring (Err c.in_err-replace_setting.field-0.0) in
-    rw (p.1, p.2) (record {
-      reckons = reckoned t (turning_call_rows t l m a.times.now a.switch a.setting) (register_of t (switch_memory t m a.switch a.setting)) c.in_ok-place.ensures.rows a.times.now c.replace_setting.new.times a.ring.now c.replace_setting.new.ring (Err c.in_err-replace_setting.field-0.0) (subst P is told.times) (subst Q is told.ring);
-      settings = told.settings;
-    })
-
-pub returns : goal.returns
-returns g c =
-    let t = g.K.Kind.time in
-    let a = c.args in
-    let l = lengths (length a.times.now) (length a.ring.now) (length a.counts.now) (length a.sums.now) (length a.befores.now) (length a.floors.now) (length a.arcs.now) (length a.tables.now) (length a.marks.now) in
-    let m = open_memory a.self.now a.tracks.now a.runs.now a.connections.now a.settings.now in
-    let is = c.in_ok-place.ensures.ready.0 in
-    let told = c.in_ok-replace_setting.ensures in
-    let P : ℕ → Type 0 = λ x. TimesAfter t (register_of t (open_memory a.self.now a.tracks.now a.runs.now a.connections.now (set a.settings.now x a.setting))) a.times.now c.replace_setting.new.times (Ok tt) in
-    let Q : ℕ → Type 0 = λ x. RingAfter t (register_of t (open_memory a.self.now a.tracks.now a.runs.now a.connections.now (set a.settings.now x a.setting))) a.ring.now c.replace_setting.new.ring (Ok tt) in
-    record {
-      reckons = reckoned t (turning_call_rows t l m a.times.now a.switch a.setting) (register_of t (switch_memory t m a.switch a.setting)) c.in_ok-place.ensures.rows a.times.now c.replace_setting.new.times a.ring.now c.replace_setting.new.ring (Ok tt) (subst P is told.times) (subst Q is told.ring);
-      settings = told.settings ∙ ap (λ x. set a.settings.now x a.setting) is;
-    }
+    let m = memory a.self.now.numbers (lists_mut a.records.now) in
+    let l = lengths (length a.times.now) (length a.ring.now) (work_lengths a.work.now) in
+    let known = c.in_ok-place.ensures in
+    let R = λ (p : ℕ). register_of t (with_settings m (set a.records.now.settings.now p a.setting)) in
+    reckons t a.times.now c.replace_setting.new.times a.ring.now c.replace_setting.new.ring (turning_call_rows t l m a.times.now a.switch a.setting) (R _) (R _) c.replace_setting.result known.rows (ap R known.ready.0) c.replace_setting.ensures.reckons
