@@ -2,7 +2,8 @@
 ghost use Rattle.std.specs.Prelude.{◌≡◌, ℕ, ◌/◌, ◌<◌, length, IfOk, Some, None, OnOk};
 ghost use Rattle.network.specs.Refusals.{Answers};
 ghost use Rattle.records.specs.Lent.{lists_in, lists_mut};
-ghost use Rattle.records.specs.Register.{seen, front, register_of};
+ghost use Rattle.records.specs.Entered.{TakenFrom};
+ghost use Rattle.records.specs.Register.{register_of};
 ghost use Rattle.force.specs.Work.{work_lengths};
 ghost use Rattle.rules.specs.Faults.{plan_number, plan_place};
 ghost use Rattle.rules.specs.Rows.{setting_place, SoundOpen, open_rows};
@@ -13,9 +14,9 @@ ghost use Rattle.plan.specs.Calls.{Listed, lengths, length_rows, open_call_rows,
 use crate::states::Numbers;
 use force::Work;
 use kinds::Kind;
-use records::{Records, RecordsMut, View, entered};
+use records::{Entered, Records, RecordsMut};
 use rules::{
-    PlanFault, Switch, check_hold, check_open, check_release, check_report, check_turning, place_of,
+    PlanFault, Switch, check_hold, check_open, check_release, check_report, check_turning,
 };
 
 /// What every call refuses that reckons: a memory that is written and has not its listed length.
@@ -38,13 +39,11 @@ pub(crate) fn admit_shown<'v, K: Kind>(
     numbers: Numbers,
     records: Records<'v, K>,
     times: &[K],
-) -> Result<View<'v, K>, PlanFault>
+) -> Result<Entered<'v, K>, PlanFault>
     ensures rows { Answers plan_number plan_place (open_rows K.Kind.time (memory numbers (lists_in records.entry)) times.now) result }
-    ensures sound { let m = memory numbers (lists_in records.entry) in IfOk result (λ v. (seen v ≡ front m) × SoundOpen K.Kind.time m times.now) }
+    ensures sound { let m = memory numbers (lists_in records.entry) in IfOk result (λ e. TakenFrom K.Kind.time m e × SoundOpen K.Kind.time m times.now) }
 {
-    let v = numbers.view(records);
-    check_open(v, times)?;
-    Ok(entered(v))
+    check_open(numbers.view(records), times)
 }
 
 // What every call refuses that reckons an open plan, where `written` is the length of the memory that the times are to be written
@@ -56,10 +55,10 @@ fn admit<'v, K: Kind>(
     written: usize,
     ring: usize,
     work: &Work<'_, K>,
-) -> Result<View<'v, K>, PlanFault>
+) -> Result<Entered<'v, K>, PlanFault>
     ensures rows { Answers plan_number plan_place (open_call_rows K.Kind.time (lengths written ring (work_lengths work.now)) (memory numbers (lists_mut records.now)) times.now) result }
     ensures listed { OnOk result (Listed (lengths written ring (work_lengths work.now))) }
-    ensures sound { let m = memory numbers (lists_mut records.now) in IfOk result (λ v. (seen v ≡ front m) × SoundOpen K.Kind.time m times.now) }
+    ensures sound { let m = memory numbers (lists_mut records.now) in IfOk result (λ e. TakenFrom K.Kind.time m e × SoundOpen K.Kind.time m times.now) }
 {
     check_work(written, ring, work)?;
     admit_shown(numbers, records.lent(), times)
@@ -78,8 +77,8 @@ pub(crate) fn admit_report<K: Kind>(
     ensures rows { Answers plan_number plan_place (report_call_rows K.Kind.time (lengths (length times.now) ring (work_lengths work.now)) (memory numbers (lists_mut records.now)) times.now event at) result }
     ensures ready { let m = memory numbers (lists_mut records.now) in OnOk result ((event / 2 < length records.now.runs.now) × Ready K.Kind.time (lengths (length times.now) ring (work_lengths work.now)) m (report_memory K.Kind.time m event at)) }
 {
-    let v = admit(numbers, records, times, times.len(), ring, work)?;
-    check_report(v, event, at)
+    let e = admit(numbers, records, times, times.len(), ring, work)?;
+    check_report(&e, event, at)
 }
 
 /// What a hold refuses before it reckons.
@@ -95,8 +94,8 @@ pub(crate) fn admit_hold<K: Kind>(
     ensures rows { Answers plan_number plan_place (hold_call_rows K.Kind.time (lengths (length times.now) ring (work_lengths work.now)) (memory numbers (lists_mut records.now)) times.now run until) result }
     ensures ready { let m = memory numbers (lists_mut records.now) in OnOk result ((run < length records.now.runs.now) × Ready K.Kind.time (lengths (length times.now) ring (work_lengths work.now)) m (hold_memory K.Kind.time m run (Some until))) }
 {
-    let v = admit(numbers, records, times, times.len(), ring, work)?;
-    check_hold(v, run, until)
+    let e = admit(numbers, records, times, times.len(), ring, work)?;
+    check_hold(&e, run, until)
 }
 
 /// What a release refuses before it reckons.
@@ -112,8 +111,8 @@ pub(crate) fn admit_release<K: Kind>(
     ensures rows { Answers plan_number plan_place (release_call_rows K.Kind.time (lengths (length times.now) ring (work_lengths work.now)) (memory numbers (lists_mut records.now)) times.now numbers.number slip_plan slip_run) result }
     ensures ready { let m = memory numbers (lists_mut records.now) in OnOk result ((slip_run < length records.now.runs.now) × Ready K.Kind.time (lengths (length times.now) ring (work_lengths work.now)) m (hold_memory K.Kind.time m slip_run None)) }
 {
-    let v = admit(numbers, records, times, times.len(), ring, work)?;
-    check_release(v, numbers.number, slip_plan, slip_run)
+    let e = admit(numbers, records, times, times.len(), ring, work)?;
+    check_release(&e, numbers.number, slip_plan, slip_run)
 }
 
 /// What turning a setting refuses before it reckons; taken, the place of its byte. `written` is the length of the memory that the
@@ -131,7 +130,6 @@ pub(crate) fn admit_turning<K: Kind>(
     ensures rows { Answers plan_number plan_place (turning_call_rows K.Kind.time (lengths written ring (work_lengths work.now)) (memory numbers (lists_mut records.now)) times.now switch setting) result }
     ensures ready { let m = memory numbers (lists_mut records.now) in IfOk result (λ p. (p ≡ setting_place K.Kind.time (register_of K.Kind.time m) switch) × (p < length records.now.settings.now) × Ready K.Kind.time (lengths written ring (work_lengths work.now)) m (switch_memory K.Kind.time m switch setting)) }
 {
-    let v = admit(numbers, records, times, written, ring, work)?;
-    check_turning(v, switch, setting)?;
-    Ok(place_of(v, switch))
+    let e = admit(numbers, records, times, written, ring, work)?;
+    check_turning(&e, switch, setting)
 }

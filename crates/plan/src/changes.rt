@@ -10,9 +10,9 @@ ghost use Rattle.plan.specs.Steps.{with_runs, with_settings};
 ghost use Rattle.plan.specs.Calls.{Listed, lengths, Reckons};
 
 use crate::states::Numbers;
-use force::{Work, reckon_within};
+use force::{Work, reckon_plan};
 use kinds::Kind;
-use records::{Records, RecordsMut, Run};
+use records::{Entered, Records, RecordsMut, Run};
 use rules::PlanFault;
 
 /// Reckons what the records put in force.
@@ -29,7 +29,8 @@ pub(crate) fn put_in_force<K: Kind>(
     ensures reckons { Reckons K.Kind.time [] (register_of K.Kind.time (memory numbers (lists_in records.entry))) times.old times.new ring.old ring.new result }
     ensures work { SameWork work.old work.new }
 {
-    reckon_within(numbers.view(records), times, ring, work)?;
+    let e = Entered::of(numbers.view(records));
+    reckon_plan(&e, times, ring, work)?;
     Ok(())
 }
 

@@ -13,11 +13,11 @@ ghost use Rattle.plan.specs.Drafting.{track_call_rows, run_call_rows, connection
 
 use crate::Draft;
 use crate::changes::put;
-use crate::drafting::{admit_connection, admit_preset, admit_run, admit_switch, admit_track};
+use crate::drafting::{admit, admit_connection, admit_preset, admit_run, admit_track};
 use crate::states::Numbers;
 use kinds::Kind;
 use records::{Connection, Records, RecordsMut, Run, Track, count_orders};
-use rules::{PlanFault, Switch, setting_of};
+use rules::{PlanFault, Switch, find_setting};
 
 /// A draft with its number, of which nothing is entered.
 pub fn make(number: u32) -> Draft
@@ -136,7 +136,7 @@ impl Draft {
         ensures rows { Answers plan_number plan_place (setting_call_rows K.Kind.time (memory self.now.numbers (lists_in records.entry)) switch) result }
         ensures reads { IfOk result (λ s. s ≡ setting_of_lem K.Kind.time (register_of K.Kind.time (memory self.now.numbers (lists_in records.entry))) switch) }
     {
-        let v = admit_switch(self.numbers, records, switch)?;
-        Ok(setting_of(v, switch))
+        let e = admit(self.numbers, records)?;
+        find_setting(&e, switch)
     }
 }

@@ -2,7 +2,8 @@
 ghost use Rattle.std.specs.Prelude.{◌≡◌, ◌+◌, ◌<◌, ◌≤◌, length, IfOk, OnOk};
 ghost use Rattle.network.specs.Refusals.{Answers, Passed};
 ghost use Rattle.records.specs.Lent.{lists_in, lists_mut};
-ghost use Rattle.records.specs.Register.{seen, front, register_of};
+ghost use Rattle.records.specs.Entered.{TakenFrom};
+ghost use Rattle.records.specs.Register.{register_of};
 ghost use Rattle.rules.specs.Faults.{plan_number, plan_place};
 ghost use Rattle.rules.specs.Rows.{SoundDraft, draft_rows, setting_place, switch_rows};
 ghost use Rattle.plan.specs.States.{memory};
@@ -11,29 +12,27 @@ ghost use Rattle.plan.specs.Drafting.{track_call_rows, run_call_rows, connection
 
 use crate::states::Numbers;
 use kinds::Kind;
-use records::{Connection, Records, RecordsMut, Run, Track, View, entered};
+use records::{Connection, Entered, Records, RecordsMut, Run, Track};
 use rules::{
-    PlanFault, Switch, check_connection, check_draft, check_run, check_setting, check_switch,
-    check_track, place_of,
+    PlanFault, Switch, check_connection, check_draft, check_run, check_setting,
+    check_track,
 };
 
-// What every call on a draft refuses. Taken, what is entered of it.
-fn admit<'v, K: Kind>(numbers: Numbers, records: Records<'v, K>) -> Result<View<'v, K>, PlanFault>
+/// What every call on a draft refuses. Taken, what is entered of it.
+pub(crate) fn admit<'v, K: Kind>(numbers: Numbers, records: Records<'v, K>) -> Result<Entered<'v, K>, PlanFault>
     ensures rows { Answers plan_number plan_place (draft_rows K.Kind.time (memory numbers (lists_in records.entry))) result }
-    ensures sound { let m = memory numbers (lists_in records.entry) in IfOk result (λ v. (seen v ≡ front m) × SoundDraft K.Kind.time m) }
+    ensures sound { let m = memory numbers (lists_in records.entry) in IfOk result (λ e. TakenFrom K.Kind.time m e × SoundDraft K.Kind.time m) }
 {
-    let v = numbers.view(records);
-    check_draft(v)?;
-    Ok(entered(v))
+    check_draft(numbers.view(records))
 }
 
 // The same of memories that are lent to be written.
 fn admit_lent<'v, K: Kind>(
     numbers: Numbers,
     records: &'v RecordsMut<'_, K>,
-) -> Result<View<'v, K>, PlanFault>
+) -> Result<Entered<'v, K>, PlanFault>
     ensures rows { Answers plan_number plan_place (draft_rows K.Kind.time (memory numbers (lists_mut records.now))) result }
-    ensures sound { let m = memory numbers (lists_mut records.now) in IfOk result (λ v. (seen v ≡ front m) × SoundDraft K.Kind.time m) }
+    ensures sound { let m = memory numbers (lists_mut records.now) in IfOk result (λ e. TakenFrom K.Kind.time m e × SoundDraft K.Kind.time m) }
 {
     admit(numbers, records.lent())
 }
@@ -47,8 +46,8 @@ pub(crate) fn admit_track<K: Kind>(
     ensures rows { Answers plan_number plan_place (track_call_rows K.Kind.time (memory numbers (lists_mut records.now)) track) result }
     ensures room { OnOk result (SoundDraft K.Kind.time (memory numbers (lists_mut records.now)) × (numbers.tracks < 64)) }
 {
-    let v = admit_lent(numbers, records)?;
-    check_track(v, track)
+    let e = admit_lent(numbers, records)?;
+    check_track(&e, track)
 }
 
 /// What entering a run refuses. Taken, there is room for it and for its orders.
@@ -60,8 +59,8 @@ pub(crate) fn admit_run<K: Kind>(
     ensures rows { Answers plan_number plan_place (run_call_rows K.Kind.time (memory numbers (lists_mut records.now)) run) result }
     ensures room { let m = memory numbers (lists_mut records.now) in OnOk result (SoundDraft K.Kind.time m × ((numbers.runs < 512) × ((run.track < 64) × (orders_entered K.Kind.time m + orders_added K.Kind.time m run.track ≤ 4096)))) }
 {
-    let v = admit_lent(numbers, records)?;
-    check_run(v, run)
+    let e = admit_lent(numbers, records)?;
+    check_run(&e, run)
 }
 
 /// What entering a connection refuses. Taken, there is room for it.
@@ -73,8 +72,8 @@ pub(crate) fn admit_connection<K: Kind>(
     ensures rows { Answers plan_number plan_place (connection_call_rows K.Kind.time (memory numbers (lists_mut records.now)) connection) result }
     ensures room { OnOk result (SoundDraft K.Kind.time (memory numbers (lists_mut records.now)) × (numbers.connections < 512)) }
 {
-    let v = admit_lent(numbers, records)?;
-    check_connection(v, connection)
+    let e = admit_lent(numbers, records)?;
+    check_connection(&e, connection)
 }
 
 /// What giving a switch of a draft a setting refuses; taken, the place of its byte.
@@ -87,21 +86,6 @@ pub(crate) fn admit_preset<K: Kind>(
     ensures rows { Answers plan_number plan_place (preset_call_rows K.Kind.time (memory numbers (lists_mut records.now)) switch setting) result }
     ensures known { IfOk result (λ p. (p ≡ setting_place K.Kind.time (register_of K.Kind.time (memory numbers (lists_mut records.now))) switch) × (p < length records.now.settings.now)) }
 {
-    let v = admit_lent(numbers, records)?;
-    check_setting(v, switch, setting)?;
-    Ok(place_of(v, switch))
-}
-
-/// What asking for a setting of a draft refuses; taken, the switch is known in what is entered.
-pub(crate) fn admit_switch<'v, K: Kind>(
-    numbers: Numbers,
-    records: Records<'v, K>,
-    switch: Switch,
-) -> Result<View<'v, K>, PlanFault>
-    ensures rows { Answers plan_number plan_place (setting_call_rows K.Kind.time (memory numbers (lists_in records.entry)) switch) result }
-    ensures known { let m = memory numbers (lists_in records.entry) in IfOk result (λ v. (seen v ≡ front m) × (SoundDraft K.Kind.time m × Passed (switch_rows K.Kind.time (register_of K.Kind.time m) switch))) }
-{
-    let v = admit(numbers, records)?;
-    check_switch(v, switch)?;
-    Ok(v)
+    let e = admit_lent(numbers, records)?;
+    check_setting(&e, switch, setting)
 }

@@ -13,8 +13,8 @@ use crate::Open;
 use crate::admits::admit_shown;
 use cost::delay_cost;
 use kinds::Kind;
-use records::Records;
-use rules::{PlanFault, Switch, check_event, check_open, check_switch, setting_of};
+use records::{Place, Records};
+use rules::{PlanFault, Switch, check_event, find_setting};
 
 impl Open {
     /// The time shown of an event.
@@ -27,8 +27,8 @@ impl Open {
         ensures rows { let m = memory self.now.numbers (lists_in records.entry) in Answers plan_number plan_place (open_rows K.Kind.time m times.now ++ event_rows K.Kind.time (register_of K.Kind.time m) event) result }
         ensures value { IfOk result (λ x. x ≡ time_at K.Kind.time times.now event) }
     {
-        let v = admit_shown(self.numbers, records, times)?;
-        check_event(v, event)?;
+        let e = admit_shown(self.numbers, records, times)?;
+        check_event(&e, event)?;
         Ok(times[event as usize])
     }
 
@@ -42,9 +42,8 @@ impl Open {
         ensures rows { let m = memory self.now.numbers (lists_in records.entry) in Answers plan_number plan_place (open_rows K.Kind.time m times.now ++ switch_rows K.Kind.time (register_of K.Kind.time m) switch) result }
         ensures value { IfOk result (λ x. x ≡ setting_of_lem K.Kind.time (register_of K.Kind.time (memory self.now.numbers (lists_in records.entry))) switch) }
     {
-        let v = admit_shown(self.numbers, records, times)?;
-        check_switch(v, switch)?;
-        Ok(setting_of(v, switch))
+        let e = admit_shown(self.numbers, records, times)?;
+        find_setting(&e, switch)
     }
 
     /// The delay cost of the times shown.
@@ -52,11 +51,12 @@ impl Open {
         ensures rows { Answers plan_number plan_place (open_rows K.Kind.time (memory self.now.numbers (lists_in records.entry)) times.now) result }
         ensures value { IfOk result (λ n. n ≡ delay_cost_lem K.Kind.time (register_of K.Kind.time (memory self.now.numbers (lists_in records.entry))) (time_at K.Kind.time times.now)) }
     {
-        let v = self.numbers.view(records);
-        check_open(v, times)?;
-        let mut counts = [0u16; 512];
-        let mut sums = [0u32; 512];
-        let mut befores = [0u16; 512];
-        Ok(delay_cost(v, times, &mut counts, &mut sums, &mut befores))
+        let e = admit_shown(self.numbers, records, times)?;
+        let mut places = [Place {
+            earlier: 0,
+            sum: 0,
+            before: None,
+        }; 512];
+        Ok(delay_cost(&e, times, &mut places))
     }
 }

@@ -18,7 +18,7 @@ use crate::states::Numbers;
 use cost::delay_cost;
 use force::Work;
 use kinds::Kind;
-use records::{Connection, Records, RecordsMut, Run, Track};
+use records::{Connection, Entered, Records, RecordsMut, Run, Track};
 use rules::{PlanFault, Switch};
 
 // The setting bytes with one of them switched. Dropped, the old byte is back.
@@ -86,8 +86,8 @@ fn try_setting<K: Kind>(
         settings: switched.bytes(),
     };
     put_in_force(numbers, records, trial, ring, work)?;
-    let v = numbers.view(records);
-    Ok(delay_cost(v, trial, work.counts, work.sums, work.befores))
+    let e = Entered::of(numbers.view(records));
+    Ok(delay_cost(&e, trial, work.places))
 }
 
 impl Open {

@@ -53,7 +53,7 @@ pub fn check_switch<K: Kind>(e: &Entered<'_, K>, switch: Switch) -> Result<usize
 }
 
 /// The setting of an order or a connection, and what asking for it refuses.
-pub fn setting_of<K: Kind>(e: &Entered<'_, K>, switch: Switch) -> Result<u8, PlanFault>
+pub fn find_setting<K: Kind>(e: &Entered<'_, K>, switch: Switch) -> Result<u8, PlanFault>
     ensures rows { PlanAnswers (switch_rows K.Kind.time (register_in K.Kind.time e.now) switch) result }
     ensures setting { IfOk result (λ x. x ≡ setting_of_lem K.Kind.time (register_in K.Kind.time e.now) switch) }
 {
