@@ -48,6 +48,8 @@ pub const FLOOR_SIZE: u32 = 110_000_000;
 pub const DURATION_SIZE: u32 = 100_000;
 
 // Stands for no arc, and for an event that is not marked.
+// Stays: an `Option<u16>` takes twice the lent memory, 2 MB more; and it is no plainer, since the places of a traced ring stand in
+// the same memory, and each would be an `Option` that is never none.
 const NO_ARC: u16 = 65_535;
 
 // The floors and the arcs of a network that keeps its limits.

@@ -1,40 +1,15 @@
 use Rattle.std.proofs.Common.{◌≡◌, ◌<◌, length, ap, arith, rules}
 use Rattle.std.proofs.lemmas.List.{get_or_read}
 use Rattle.network.specs.Reckoning.{arc_at}
-use Rattle.network.proofs.Rounds.{arc_is, arc_starts, arc_ends, arc_fits, brings, none_not, round_keeps, round_takes, sound_at}
+use Rattle.network.proofs.Rounds.{arc_is, arc_ends, brings, round_keeps, round_takes, sound_at}
 use Rattle.network.proofs.round.Goals as goal
 use Rattle.network.proofs.round.Goals.{then-not-compare, else-not-compare, In-Some}
-
-pub offset_bounds-old-arc : goal.offset_bounds-old-arc
-offset_bounds-old-arc g c =
-    let starts = arc_starts c.args.old.now (sound_at c.args.old.now c.args.kept.now.limits c.requires.lengths.0) c.loop-i-test.true c.arc-item.is in
-    let ends = arc_ends c.args.old.now (sound_at c.args.old.now c.args.kept.now.limits c.requires.lengths.0) c.loop-i-test.true c.arc-item.is in omega arith
-
-pub bounds-old-arc : goal.bounds-old-arc
-bounds-old-arc g c =
-    let starts = arc_starts c.args.old.now (sound_at c.args.old.now c.args.kept.now.limits c.requires.lengths.0) c.loop-i-test.true c.arc-item.is in
-    let ends = arc_ends c.args.old.now (sound_at c.args.old.now c.args.kept.now.limits c.requires.lengths.0) c.loop-i-test.true c.arc-item.is in omega arith
 
 pub offset_bounds-new-end : goal.offset_bounds-new-end
 offset_bounds-new-end g c = let h = arc_ends c.args.old.now (sound_at c.args.old.now c.args.kept.now.limits c.requires.lengths.0) c.loop-i-test.true c.arc-item.is in search rules
 
-pub bounds-new-end : goal.bounds-new-end
-bounds-new-end g c = let h = arc_ends c.args.old.now (sound_at c.args.old.now c.args.kept.now.limits c.requires.lengths.0) c.loop-i-test.true c.arc-item.is in search rules
-
 pub offset_bounds-new-end-then-not-compare : goal.offset_bounds-new-end-then-not-compare
 offset_bounds-new-end-then-not-compare g c = offset_bounds-new-end g (goal.at.offset_bounds-new-end-then-not-compare g c).In-Some
-
-pub bounds-new-end-then-not-compare : goal.bounds-new-end-then-not-compare
-bounds-new-end-then-not-compare g c = let h = arc_ends c.args.old.now (sound_at c.args.old.now c.args.kept.now.limits c.requires.lengths.0) c.loop-i-test.true c.arc-item.is in search rules
-
-pub bounds-from-end : goal.bounds-from-end
-bounds-from-end g c = let h = arc_ends c.args.old.now (sound_at c.args.old.now c.args.kept.now.limits c.requires.lengths.0) c.loop-i-test.true c.arc-item.is in search rules
-
-pub unreachable-requires : goal.unreachable-requires
-unreachable-requires g c =
-    let starts = arc_starts c.args.old.now (sound_at c.args.old.now c.args.kept.now.limits c.requires.lengths.0) c.loop-i-test.true c.arc-item.is in
-    let ends = arc_ends c.args.old.now (sound_at c.args.old.now c.args.kept.now.limits c.requires.lengths.0) c.loop-i-test.true c.arc-item.is in
-    none_not _ _ (arc_fits c.args.old.now (sound_at c.args.old.now c.args.kept.now.limits c.requires.lengths.0) c.loop-i-test.true c.arc-item.is c.index-old-arc.is (omega arith) c.requires.sized) c.in-None.ensures
 
 pub loop-i-preserved : goal.loop-i-preserved
 loop-i-preserved g c =

@@ -1,4 +1,4 @@
-use Rattle.std.proofs.Common.{◌≡◌, ◌+◌, ◌-◌, ◌*◌, length, take, drop, sym, ◌∙◌, arith}
+use Rattle.std.proofs.Common.{◌≡◌, ◌+◌, ◌-◌, ◌*◌, length, take, drop, ◌∙◌, arith}
 use Rattle.std.proofs.lemmas.List.{length-take, length-drop}
 use Rattle.network.specs.Rounds.{Level}
 use Rattle.network.proofs.Rows.{row_ends, levels_more, rising}
@@ -12,19 +12,8 @@ loop-k-init g c =
     let limits = c.args.kept.now.limits in
     (rw c.copy_from_slice.ensures.after (latest_none laws _ _ limits), λ j h. absurd (omega arith), λ h. absurd (omega arith))
 
-pub slice_bounds-row-end : goal.slice_bounds-row-end
-slice_bounds-row-end g c = let h = row_ends c.loop-k.k (length c.args.kept.now.floors.now) (length c.args.kept.now.floors.now) c.loop-k-test.true in omega arith
-
-pub round-requires : goal.round-requires
-round-requires g c =
-    let laws = g.met.K.Kind.laws in
-    let limits = c.args.kept.now.limits in
-    let n = length c.args.kept.now.floors.now in
-    let k = c.loop-k.k in
-    let h = row_ends k n n c.loop-k-test.true in
-    let same : length c.loop-k.times ≡ n = omega arith in
-    let long : length (take (k * n + n - k * n) (drop (k * n) c.loop-k.rows)) ≡ n = simp (length-take, length-drop) (omega arith) in
-    record { lengths = (omega arith, (omega arith, long ∙ sym same)); sized = latest_sized laws _ _ limits k _ c.loop-k.invariant.0 (omega arith) }
+pub round-requires-clause-sized : goal.round-requires-clause-sized
+round-requires-clause-sized g c = latest_sized g.met.K.Kind.laws _ _ c.args.kept.now.limits c.loop-k.k _ c.loop-k.invariant.0 (let few = c.args.kept.now.limits.few in omega arith)
 
 pub returns-in-None : goal.returns-in-None
 returns-in-None g c =

@@ -1,4 +1,4 @@
-use Rattle.std.proofs.Common.{◌≡◌, ◌<◌, ◌≤◌, sym, ap, ◌∙◌, inl, inr, arith, below_more}
+use Rattle.std.proofs.Common.{◌≡◌, ◌<◌, ◌≤◌, sym, ap, ◌∙◌, inl, inr, arith}
 use Rattle.std.proofs.lemmas.List.{get_or_read}
 use Rattle.network.specs.declared.Arc.{Arc}
 use Rattle.network.specs.Reckoning.{arc_at, Stray}
@@ -30,17 +30,6 @@ returns-then-arc-events-2 g c =
     let inside : (arc_at t arcs i).from < n = omega (arith, c.if-arc-events.false) in
     let out : n ≤ (arc_at t arcs i).to = omega (arith, c.if-arc-events-2.true) in
     (some_at (Stray n) d arcs i c.loop-arc-test.true (inr out), end ∙ sym (stray_to n d arcs i c.loop-arc.invariant c.loop-arc-test.true inside out))
-
-pub loop-arc-preserved : goal.loop-arc-preserved
-loop-arc-preserved g c =
-    let t = g.K.Kind.time in
-    let n = c.args.events in
-    let arcs = c.args.arcs.now in
-    let i = c.loop-arc.arc-index in
-    let read : c.arc-item.result ≡ arc_at t arcs i = get_or_read _ _ _ c.loop-arc-test.true c.arc-item.is _ in
-    let start = ap (λ a. a.from) read in
-    let end = ap (λ a. a.to) read in
-    below_more _ _ c.loop-arc.invariant (λ s. elim s [ inl h ↦ omega (arith, c.if-arc-events.false) | inr h ↦ omega (arith, c.if-arc-events-2.false) ])
 
 pub returns : goal.returns
 returns g c =
