@@ -34,7 +34,7 @@ loop-next-preserved g c =
     let i = c.in-Some.i in
     let s = met f _ j i _ c.requires.inside c.loop-next.invariant.2 c.in-Some.is in
     let w = reached f j i _ (omega (arith, s.ordered.below)) s.ordered.shared c.before-next-in-Some.ensures in
-    let one = order_is t R c.track-track.result c.setting.result i j c.run.result c.run-y.result _ _ c.track-track.ensures c.setting.ensures.value c.run.ensures c.run-y.ensures s.ordered.shared c.push_order.ensures.added in (
+    let one = order_is t R c.track-track.result c.setting.result i j c.run.result c.run-run.result _ _ c.track-track.ensures c.setting.ensures.value c.run.ensures c.run-run.ensures s.ordered.shared c.push_order.ensures.added in (
       added_back t (OrderOf t R j) _ _ _ _ i _ j w.low s.at c.loop-next.invariant.1 (λ r a l h x. w.none r l h x.0) c.loop-next.invariant.0 one,
       omega (arith, w.low, s.ordered.below),
       w.on,
