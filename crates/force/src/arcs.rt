@@ -16,6 +16,13 @@ struct ArcList<'a, K> {
     count: usize,
 }
 
+// A run and its number.
+#[derive(Clone, Copy)]
+struct Numbered<K> {
+    number: usize,
+    run: Run<K>,
+}
+
 impl<K: Kind> ArcList<'_, K> {
     // Adds an arc, unless its end is reported.
     fn push_unless(&mut self, report: Option<K>, arc: Arc<K>)
@@ -29,37 +36,39 @@ impl<K: Kind> ArcList<'_, K> {
         }
     }
 
-    // Adds the running and the dwell arc of run `r`.
-    fn push_run(&mut self, r: usize, run: Run<K>)
-        requires few { (r < 512) × ((IfSome run.predecessor (λ q. q < r)) × (self.old.count + 2 ≤ length self.old.arcs.now)) }
-        ensures added { Added K.Kind.time (OfRun r run) self.old self.new }
+    // Adds the running and the dwell arc of a run.
+    fn push_run(&mut self, x: Numbered<K>)
+        requires few { (x.number < 512) × ((IfSome x.run.predecessor (λ q. q < x.number)) × (self.old.count + 2 ≤ length self.old.arcs.now)) }
+        ensures added { Added K.Kind.time (OfRun x.number x.run) self.old self.new }
         ensures room { self.new.count ≤ self.old.count + 2 }
     {
+        let Numbered { number, run } = x;
+        let departure = 2 * number as u16;
         let running = Arc {
-            from: 2 * r as u16,
-            to: 2 * r as u16 + 1,
+            from: departure,
+            to: departure + 1,
             duration: run.running,
         };
         self.push_unless(run.arrived, running);
         if let Some(p) = run.predecessor {
             let dwell = Arc {
                 from: 2 * p + 1,
-                to: 2 * r as u16,
+                to: departure,
                 duration: run.dwell,
             };
             self.push_unless(run.departed, dwell);
         }
     }
 
-    // Adds what is in force from the run ahead, `x`, to the other, `y`.
-    fn push_follow(&mut self, track: Track<K>, u: usize, x: Run<K>, v: usize, y: Run<K>)
-        requires few { (u < 512) × ((v < 512) × (self.old.count + 2 ≤ length self.old.arcs.now)) }
-        ensures added { Added K.Kind.time (Follows track u x v y) self.old self.new }
+    // Adds what is in force from the run ahead to the other.
+    fn push_follow(&mut self, track: Track<K>, ahead: Numbered<K>, other: Numbered<K>)
+        requires few { (ahead.number < 512) × ((other.number < 512) × (self.old.count + 2 ≤ length self.old.arcs.now)) }
+        ensures added { Added K.Kind.time (Follows track ahead.number ahead.run other.number other.run) self.old self.new }
         ensures room { self.new.count ≤ self.old.count + 2 }
     {
-        let a = 2 * u as u16;
-        let b = 2 * v as u16;
-        if x.direction == y.direction {
+        let a = 2 * ahead.number as u16;
+        let b = 2 * other.number as u16;
+        if ahead.run.direction == other.run.direction {
             let departures = Arc {
                 from: a,
                 to: b,
@@ -70,28 +79,28 @@ impl<K: Kind> ArcList<'_, K> {
                 to: b + 1,
                 duration: track.headway,
             };
-            self.push_unless(y.departed, departures);
-            self.push_unless(y.arrived, arrivals);
+            self.push_unless(other.run.departed, departures);
+            self.push_unless(other.run.arrived, arrivals);
         } else {
             let meeting = Arc {
                 from: a + 1,
                 to: b,
                 duration: track.meeting,
             };
-            self.push_unless(y.departed, meeting);
+            self.push_unless(other.run.departed, meeting);
         }
     }
 
-    // Adds what is in force for the order of `i` and `j`.
-    fn push_order(&mut self, track: Track<K>, setting: u8, i: usize, x: Run<K>, j: usize, y: Run<K>)
-        requires few { (i < 512) × ((j < 512) × ((setting ≤ 1) × (self.old.count + 2 ≤ length self.old.arcs.now))) }
-        ensures added { Added K.Kind.time (Turns track setting i x j y) self.old self.new }
+    // Adds what is in force for the order of a run, `x`, with a later one, `y`.
+    fn push_order(&mut self, track: Track<K>, setting: u8, x: Numbered<K>, y: Numbered<K>)
+        requires few { (x.number < 512) × ((y.number < 512) × ((setting ≤ 1) × (self.old.count + 2 ≤ length self.old.arcs.now))) }
+        ensures added { Added K.Kind.time (Turns track setting x.number x.run y.number y.run) self.old self.new }
         ensures room { self.new.count ≤ self.old.count + 2 }
     {
         if setting == 0 {
-            self.push_follow(track, i, x, j, y);
+            self.push_follow(track, x, y);
         } else {
-            self.push_follow(track, j, y, i, x);
+            self.push_follow(track, y, x);
         }
     }
 
@@ -118,7 +127,10 @@ impl<K: Kind> ArcList<'_, K> {
         ensures room { self.new.count ≤ self.old.count + 2 * length e.now.runs.now }
     {
         for (r, run) in e.runs.iter().enumerate() {
-            self.push_run(r, *run);
+            self.push_run(Numbered {
+                number: r,
+                run: *run,
+            });
         }
     }
 
@@ -142,11 +154,16 @@ impl<K: Kind> ArcList<'_, K> {
         ensures room { self.new.count ≤ self.old.count + 2 * earlier (track_in K.Kind.time (register_in K.Kind.time layout.now.entered.now)) j }
     {
         let e = layout.entered;
-        let y = e.run(j);
-        let track = e.track(y.track as usize);
+        let run = e.run(j);
+        let track = e.track(run.track as usize);
+        let y = Numbered { number: j, run };
         let mut next = layout.before(j);
         while let Some(i) = next {
-            self.push_order(track, layout.setting(i, j), i, e.run(i), j, y);
+            let x = Numbered {
+                number: i,
+                run: e.run(i),
+            };
+            self.push_order(track, layout.setting(i, j), x, y);
             next = layout.before(i);
         }
     }

@@ -9,7 +9,8 @@ use kinds::Kind;
 use network::{Arc, Listing, NetworkFault, reckon};
 use records::{Entered, Place};
 
-// The same over the memories of `Work` one by one, since `reckon` reads some of them and writes others.
+// The same over the memories of `Work` one by one.
+// Stays: `reckon` reads some of them and writes others, and behind one `&mut Work` the proof of that didn't close.
 fn reckon_over<K: Kind>(
     e: &Entered<'_, K>,
     times: &mut [K],

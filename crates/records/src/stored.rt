@@ -161,6 +161,7 @@ pub fn check_drafted<K: Kind>(e: &Entered<'_, K>) -> bool
     runs_unused(e.runs)
 }
 
+// Stays: a slice of these times alone is no plainer, since the promises above speak of the whole memory and its first events.
 /// Whether the times shown of the first `events` events are within the size that a reckoning can give.
 pub fn check_shown<K: Kind>(shown: &[K], events: usize) -> bool
     requires { events ≤ length shown.now }
