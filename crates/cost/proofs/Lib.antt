@@ -1,4 +1,3 @@
 pub mod Sums
-pub mod Parts
 pub mod Turned
 pub mod Costs

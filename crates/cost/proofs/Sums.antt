@@ -1,5 +1,5 @@
 -- Laws of sums. Assumes nothing.
-use Rattle.std.proofs.Common.{◌≡◌, ℕ, zero, suc, ◌+◌, ◌-◌, ◌<◌, ◌≤◌, refl, ap, inl, inr, add-one, arith}
+use Rattle.std.proofs.Common.{◌≡◌, ℕ, zero, suc, ◌+◌, ◌<◌, ◌≤◌, refl, inl, inr, add-one, arith}
 use Rattle.std.proofs.lemmas.Bool.{cases_lt}
 use Rattle.cost.specs.Cost.{sum_below}
 
@@ -26,12 +26,3 @@ sum_still f p (suc n) l none =
       | inl h ↦ (let m = sum_still f p n (omega arith) (λ k a b. none k a (omega arith)) in let z = none n (omega arith) (omega arith) in omega arith)
       | inr h ↦ (let e : p ≡ suc n = omega arith in rw e refl)
     ]
-
--- a step back from p to q passes the term before p and terms that are 0
-pub sum_back : (f : ℕ → ℕ) (p q : ℕ) → 0 < p → q ≤ p - 1 → ((k : ℕ) → q ≤ k → k < p - 1 → f k ≡ 0) → sum_below p f ≡ f (p - 1) + sum_below q f
-sum_back f p q some l none =
-    let still = sum_still f q (p - 1) l none in
-    let more = sum_more f (p - 1) in
-    let e : p - 1 + 1 ≡ p = omega arith in
-    let same = ap (λ (n : ℕ). sum_below n f) e in
-    omega arith

@@ -1,5 +1,5 @@
 -- The delay cost of a table of times: what late arrivals, broken connections and turned orders cost together. Assumes nothing.
-use Rattle.std.specs.Prelude.{ℕ, zero, suc, ◌+◌, ◌*◌, ◌≤◌, cond, ◌&&◌, length, ◌==◌}
+use Rattle.std.specs.Prelude.{ℕ, zero, suc, ◌+◌, ◌*◌, ◌≤◌, if◌then◌else◌, ◌&&◌, length, ◌==◌}
 use Rattle.kinds.specs.Time.{Time}
 use Rattle.network.specs.Network.{Table, Meets, Least}
 use Rattle.records.specs.Register.{Register}
@@ -20,11 +20,11 @@ module _ {K : Type 0} (t : Time K) where
 
     -- connection c costs its penalty if it is broken
     abbrev pub break_cost : ℕ → ℕ
-    break_cost c = cond (R.link c == 1) (connection_in t R c).penalty 0
+    break_cost c = if R.link c == 1 then (connection_in t R c).penalty else 0
 
     -- the order of run j with an earlier run i costs the penalty of their track if they share one and j is put ahead
     abbrev pub turn_cost : ℕ → ℕ → ℕ
-    turn_cost j i = cond (track_in t R i == track_in t R j && R.order i j == 1) (track_under t R j).penalty 0
+    turn_cost j i = if track_in t R i == track_in t R j && R.order i j == 1 then (track_under t R j).penalty else 0
 
     -- the orders of run j with all earlier runs
     abbrev pub turn_costs : ℕ → ℕ
