@@ -1,5 +1,5 @@
 -- What is known once no row of a call on a draft applies, and the orders that a new run brings.
-use Rattle.std.proofs.Common.{◌≡◌, ℕ, ◌+◌, ◌<◌, ◌≤◌, List, length, take, set, IfOk, Ok, Err, Result, sym, ap, ◌∙◌, inl, inr, arith}
+use Rattle.std.proofs.Common.{◌≡◌, ℕ, ◌+◌, ◌<◌, ◌≤◌, List, length, take, set, IfOk, Ok, Err, Result, sym, ap, ◌∙◌, subst, inl, inr, arith}
 use Rattle.std.proofs.lemmas.Bool.{cases_lt}
 use Rattle.std.proofs.lemmas.List.{get_or-set_same, get_or-set_other, get_or-take}
 use Rattle.kinds.specs.Time.{Time}
@@ -7,11 +7,12 @@ use Rattle.network.specs.Refusals.{Answers}
 use Rattle.records.specs.declared.Run.{Run}
 use Rattle.records.specs.Records.{track_of_lem}
 use Rattle.records.specs.Places.{total, count}
-use Rattle.records.specs.Register.{Memory, register_of}
+use Rattle.records.specs.Register.{Register, Memory, register_of}
 use Rattle.records.proofs.Counts.{total_more, total_kept, count_kept}
 use Rattle.rules.specs.declared.faults.PlanFault.{PlanFault}
 use Rattle.rules.specs.Faults.{plan_number, plan_place}
-use Rattle.rules.specs.Rows.{SoundDraft, run_rows}
+use Rattle.rules.specs.declared.switches.Switch.{Switch}
+use Rattle.rules.specs.Rows.{SoundDraft, run_rows, setting_place, PlaceOf}
 use Rattle.plan.specs.Steps.{orders_entered, orders_added}
 use Rattle.plan.proofs.Stays.{long_runs}
 use Rattle.rules.proofs.Rows.{run_passed}
@@ -28,6 +29,15 @@ module _ {K : Type 0} (t : Time K) where
         let f = track_of_lem t (take m.run_count m.runs) in
         let e = ap (λ (i : ℕ). total f i + count f x.track i) long in
         (sound, (omega (arith, h.room, long), (omega (arith, h.linked.1.0, sound.stored.limits.few_tracks), omega (arith, h.orders))))
+
+    -- where the byte of a switch lies that is named in what is entered
+    pub place_known : (R : Register K) → R ≡ register_of t m → (s : Switch) (a : Result ℕ PlanFault) → IfOk a (PlaceOf t R s) → IfOk a (λ p. (p ≡ setting_place t (register_of t m) s) × (p < length m.settings))
+    place_known R is s (Err f) at = tt
+    place_known R is s (Ok p) at =
+        let there = subst (λ (S : Register K). PlaceOf t S s p) is at in
+        let inside = there.inside in
+        let whole = sound.listed.settings in
+        (there.is, omega arith)
 
     -- the track of an entered run
     pub track_was : (k : ℕ) → k < m.run_count → track_of_lem t (take m.run_count m.runs) k ≡ track_of_lem t m.runs k

@@ -6,11 +6,11 @@ use Rattle.kinds.specs.Time.{Time}
 use Rattle.network.specs.Refusals.{Answers, Passed}
 use Rattle.records.specs.declared.Run.{Run}
 use Rattle.records.specs.Records.{run_at}
-use Rattle.records.specs.Register.{Memory, register_of}
+use Rattle.records.specs.Register.{Register, Memory, register_of}
 use Rattle.records.specs.Stored.{RunStored}
 use Rattle.rules.specs.declared.faults.PlanFault.{PlanFault}
 use Rattle.rules.specs.Faults.{plan_number, plan_place}
-use Rattle.rules.specs.Rows.{SoundOpen, Over, Untimely, Given, report_rows, hold_rows, release_rows, turning_rows, setting_place}
+use Rattle.rules.specs.Rows.{SoundOpen, Over, Untimely, Given, report_rows, hold_rows, release_rows, turning_rows, setting_place, PlaceOf}
 use Rattle.rules.proofs.Rows.{setting_flag, turning_set}
 use Rattle.rules.specs.declared.switches.Switch.{Switch}
 use Rattle.plan.specs.Steps.{with_runs, reported, holding, report_memory, hold_memory, switch_memory}
@@ -80,8 +80,13 @@ module _ {K : Type 0} (t : Time K) where
         let inside : r < m.run_count = elim (cases_lt r (length (take m.run_count m.runs))) [ inl h ↦ omega arith | inr h ↦ absurd (a.1.0 h) ] in
         (omega arith, changed r (holding (run_at t m.runs r) None) inside refl (holding_stored t _ r (run_at t m.runs r) None tt (run_good r inside)))
 
-    pub turning_ready : (s : Switch) (setting : ℕ) → Passed (turning_rows t (register_of t m) s setting) → (p : ℕ) → p ≡ setting_place t (register_of t m) s → p < 4608 → (p ≡ setting_place t (register_of t m) s) × (p < length m.settings) × Ready t l m (switch_memory t m s setting)
-    turning_ready s setting passed p e h =
+    turned_ready : (s : Switch) (setting p : ℕ) → Passed (turning_rows t (register_of t m) s setting) → PlaceOf t (register_of t m) s p → (p ≡ setting_place t (register_of t m) s) × (p < length m.settings) × Ready t l m (switch_memory t m s setting)
+    turned_ready s setting p passed at =
         let small = setting_flag t (register_of t m) s setting (turning_set t (register_of t m) s setting passed) in
         let long = sound.listed.settings in
-        (e, omega arith, record { listed = listed; records = sound.listed; stored = stored_settings t m (setting_place t (register_of t m) s) setting small sound.stored })
+        let inside = at.inside in
+        (at.is, omega arith, record { listed = listed; records = sound.listed; stored = stored_settings t m (setting_place t (register_of t m) s) setting small sound.stored })
+
+    pub turning_ready : (s : Switch) (setting : ℕ) (a : Result ℕ PlanFault) → Answers plan_number plan_place (turning_rows t (register_of t m) s setting) a → (R : Register K) → R ≡ register_of t m → IfOk a (PlaceOf t R s) → IfOk a (λ p. (p ≡ setting_place t (register_of t m) s) × (p < length m.settings) × Ready t l m (switch_memory t m s setting))
+    turning_ready s setting (Err f) a R is at = tt
+    turning_ready s setting (Ok p) a R is at = turned_ready s setting p a (subst (λ (S : Register K). PlaceOf t S s p) is at)

@@ -1,5 +1,5 @@
 -- From the answers of a call's parts to that of the call.
-use Rattle.std.proofs.Common.{◌≡◌, ℕ, ◌<◌, List, ◌++◌, length, get_or, Err, Result, set, ap, ◌∙◌, subst}
+use Rattle.std.proofs.Common.{◌≡◌, ℕ, ◌<◌, List, ◌++◌, length, get_or, Ok, Err, Result, IfOk, OnOk, set, ap, ◌∙◌, subst}
 use Rattle.std.specs.Result.{IsErrAnd}
 use Rattle.std.proofs.lemmas.Result.{err_from_is_err_and}
 use Rattle.std.proofs.lemmas.List.{get_or_default}
@@ -29,6 +29,11 @@ module _ {M : Type 0} (ys : M → List Row) (m n : M) (is : m ≡ n) where
 
   pub passed_behind : (xs : List Row) → Passed xs → Passed (ys m) → Passed (xs ++ ys n)
   passed_behind xs p h = passed_more xs (ys n) p (passed h)
+
+-- what is taken of a memory, and what is known of it, are those of an equal one
+pub sound_of : {M X E : Type 0} (P : M → X → Type 0) (Q : M → Type 0) (m n : M) → m ≡ n → (r : Result X E) → IfOk r (P m) → OnOk r (Q m) → IfOk r (λ x. P n x × Q n)
+sound_of P Q m n is (Ok x) p q = (subst (λ z. P z x) is p, subst Q is q)
+sound_of P Q m n is (Err e) p q = tt
 
 -- the fault of a part is handed on as the call's
 abbrev pub Left : {X : Type 0} → PlanFault → Result X PlanFault → Type 0

@@ -1,6 +1,6 @@
 use Rattle.std.proofs.Common.{length}
 use Rattle.records.specs.Lent.{lists_mut}
-use Rattle.records.specs.Register.{Memory, all_of, register_of}
+use Rattle.records.specs.Register.{Register, register_of}
 use Rattle.force.specs.Work.{work_lengths}
 use Rattle.rules.specs.Rows.{hold_rows}
 use Rattle.plan.specs.States.{memory}
@@ -9,12 +9,12 @@ use Rattle.plan.proofs.Told.{left_front, told, told_behind}
 use Rattle.plan.proofs.Ready.{hold_ready}
 use Rattle.plan.proofs.admits.admit_hold.Goals as goal
 
-pub returns-in_err-v-clause-rows : goal.returns-in_err-v-clause-rows
-returns-in_err-v-clause-rows g c =
+pub returns-in_err-e-clause-rows : goal.returns-in_err-e-clause-rows
+returns-in_err-e-clause-rows g c =
     let t = g.K.Kind.time in
     let a = c.args in
     let m = memory a.numbers (lists_mut a.records.now) in
-    left_front _ _ c.from_residual.ensures.1 (open_call_rows t (lengths (length a.times.now) a.ring (work_lengths a.work.now)) m a.times.now) (hold_rows t (register_of t m) a.run a.until) c.in_err-v.ensures.rows
+    left_front _ _ c.from_residual.ensures.1 (open_call_rows t (lengths (length a.times.now) a.ring (work_lengths a.work.now)) m a.times.now) (hold_rows t (register_of t m) a.run a.until) c.in_err-e.ensures.rows
 
 pub returns : goal.returns
 returns g c =
@@ -22,9 +22,9 @@ returns g c =
     let a = c.args in
     let l = lengths (length a.times.now) a.ring (work_lengths a.work.now) in
     let m = memory a.numbers (lists_mut a.records.now) in
-    let ys = λ (x : Memory g.row.K.Denot). hold_rows t (all_of t x) a.run a.until in
-    let known = c.in_ok-v.ensures in
+    let ys = λ (R : Register g.row.K.Denot). hold_rows t R a.run a.until in
+    let known = c.in_ok-e.ensures in
     record {
-      rows = told_behind ys _ _ known.sound.0 (open_call_rows t l m a.times.now) c.check_hold.result known.rows c.check_hold.ensures;
-      ready = hold_ready t l m a.times.now known.listed known.sound.1 a.run a.until c.check_hold.result (told ys _ _ known.sound.0 c.check_hold.result c.check_hold.ensures);
+      rows = told_behind ys _ _ known.sound.0.register (open_call_rows t l m a.times.now) c.check_hold.result known.rows c.check_hold.ensures;
+      ready = hold_ready t l m a.times.now known.listed known.sound.1 a.run a.until c.check_hold.result (told ys _ _ known.sound.0.register c.check_hold.result c.check_hold.ensures);
     }

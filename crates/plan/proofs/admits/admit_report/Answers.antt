@@ -1,6 +1,6 @@
 use Rattle.std.proofs.Common.{length}
 use Rattle.records.specs.Lent.{lists_mut}
-use Rattle.records.specs.Register.{Memory, all_of, register_of}
+use Rattle.records.specs.Register.{Register, register_of}
 use Rattle.force.specs.Work.{work_lengths}
 use Rattle.rules.specs.Rows.{report_rows}
 use Rattle.plan.specs.States.{memory}
@@ -9,12 +9,12 @@ use Rattle.plan.proofs.Told.{left_front, told, told_behind}
 use Rattle.plan.proofs.Ready.{report_ready}
 use Rattle.plan.proofs.admits.admit_report.Goals as goal
 
-pub returns-in_err-v-clause-rows : goal.returns-in_err-v-clause-rows
-returns-in_err-v-clause-rows g c =
+pub returns-in_err-e-clause-rows : goal.returns-in_err-e-clause-rows
+returns-in_err-e-clause-rows g c =
     let t = g.K.Kind.time in
     let a = c.args in
     let m = memory a.numbers (lists_mut a.records.now) in
-    left_front _ _ c.from_residual.ensures.1 (open_call_rows t (lengths (length a.times.now) a.ring (work_lengths a.work.now)) m a.times.now) (report_rows t (register_of t m) a.event a.at) c.in_err-v.ensures.rows
+    left_front _ _ c.from_residual.ensures.1 (open_call_rows t (lengths (length a.times.now) a.ring (work_lengths a.work.now)) m a.times.now) (report_rows t (register_of t m) a.event a.at) c.in_err-e.ensures.rows
 
 pub returns : goal.returns
 returns g c =
@@ -22,9 +22,9 @@ returns g c =
     let a = c.args in
     let l = lengths (length a.times.now) a.ring (work_lengths a.work.now) in
     let m = memory a.numbers (lists_mut a.records.now) in
-    let ys = λ (x : Memory g.row.K.Denot). report_rows t (all_of t x) a.event a.at in
-    let known = c.in_ok-v.ensures in
+    let ys = λ (R : Register g.row.K.Denot). report_rows t R a.event a.at in
+    let known = c.in_ok-e.ensures in
     record {
-      rows = told_behind ys _ _ known.sound.0 (open_call_rows t l m a.times.now) c.check_report.result known.rows c.check_report.ensures;
-      ready = report_ready t l m a.times.now known.listed known.sound.1 a.event a.at c.check_report.result (told ys _ _ known.sound.0 c.check_report.result c.check_report.ensures);
+      rows = told_behind ys _ _ known.sound.0.register (open_call_rows t l m a.times.now) c.check_report.result known.rows c.check_report.ensures;
+      ready = report_ready t l m a.times.now known.listed known.sound.1 a.event a.at c.check_report.result (told ys _ _ known.sound.0.register c.check_report.result c.check_report.ensures);
     }

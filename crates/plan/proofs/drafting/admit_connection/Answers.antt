@@ -1,22 +1,22 @@
 use Rattle.records.specs.Lent.{lists_mut}
-use Rattle.records.specs.Register.{Memory, all_of, register_of}
+use Rattle.records.specs.Register.{Register, register_of}
 use Rattle.rules.specs.Rows.{draft_rows, connection_rows}
 use Rattle.plan.specs.States.{memory}
 use Rattle.plan.proofs.Told.{left_front, told_behind}
 use Rattle.plan.proofs.drafting.admit_connection.Goals as goal
 
-pub returns-in_err-v-clause-rows : goal.returns-in_err-v-clause-rows
-returns-in_err-v-clause-rows g c =
+pub returns-in_err-e-clause-rows : goal.returns-in_err-e-clause-rows
+returns-in_err-e-clause-rows g c =
     let t = g.K.Kind.time in
     let a = c.args in
     let m = memory a.numbers (lists_mut a.records.now) in
-    left_front _ _ c.from_residual.ensures.1 (draft_rows t m) (connection_rows t (register_of t m) a.connection) c.in_err-v.ensures.rows
+    left_front _ _ c.from_residual.ensures.1 (draft_rows t m) (connection_rows t (register_of t m) a.connection) c.in_err-e.ensures.rows
 
 pub returns-clause-rows : goal.returns-clause-rows
 returns-clause-rows g c =
     let t = g.K.Kind.time in
     let a = c.args in
     let m = memory a.numbers (lists_mut a.records.now) in
-    let ys = λ (x : Memory g.row.K.Denot). connection_rows t (all_of t x) a.connection in
-    let known = c.in_ok-v.ensures in
-    told_behind ys _ _ known.sound.0 (draft_rows t m) c.check_connection.result known.rows c.check_connection.ensures
+    let ys = λ (R : Register g.row.K.Denot). connection_rows t R a.connection in
+    let known = c.in_ok-e.ensures in
+    told_behind ys _ _ known.sound.0.register (draft_rows t m) c.check_connection.result known.rows c.check_connection.ensures

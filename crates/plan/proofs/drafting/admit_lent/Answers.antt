@@ -1,6 +1,6 @@
 use Rattle.std.proofs.Common.{IfOk, ◌≡◌, subst}
 use Rattle.records.specs.Lent.{Lists}
-use Rattle.records.specs.Register.{seen, front}
+use Rattle.records.specs.Entered.{TakenFrom}
 use Rattle.rules.specs.Rows.{SoundDraft, draft_rows}
 use Rattle.plan.specs.States.{memory}
 use Rattle.plan.proofs.Told.{told}
@@ -13,4 +13,4 @@ returns-clause-rows g c =
 pub returns-clause-sound : goal.returns-clause-sound
 returns-clause-sound g c =
     let n = c.args.numbers in
-    subst (λ (x : Lists g.row.K.Denot). IfOk c.admit.result (λ v. (seen v ≡ front (memory n x)) × SoundDraft g.K.Kind.time (memory n x))) c.lent.ensures c.admit.ensures.sound
+    subst (λ (x : Lists g.row.K.Denot). IfOk c.admit.result (λ e. TakenFrom g.K.Kind.time (memory n x) e × SoundDraft g.K.Kind.time (memory n x))) c.lent.ensures c.admit.ensures.sound
