@@ -19,5 +19,6 @@ module _ {K : Type 0} where
     connection_count = n.connections;
   }
 
+  -- lists that are lent one by one
   abbrev pub lists : List (Track K) → List (Run K) → List (Connection K) → List ℕ → Lists K
   lists tracks runs connections settings = record { tracks = tracks; runs = runs; connections = connections; settings = settings }

@@ -67,7 +67,7 @@ pub(crate) fn replace_run<K: Kind>(
     match put_in_force(numbers, records.lent(), times, ring, work) {
         Ok(()) => Ok(()),
         Err(fault) => {
-            // By hand, since a guard would put a taken run back too.
+            // Stays: put back by hand, since a guard would put a taken run back too.
             put(records.runs, r, old);
             Err(fault)
         }
@@ -98,7 +98,7 @@ pub(crate) fn replace_setting<K: Kind>(
     match put_in_force(numbers, records.lent(), times, ring, work) {
         Ok(()) => Ok(()),
         Err(fault) => {
-            // By hand, since a guard would put a taken setting back too.
+            // Stays: put back by hand, since a guard would put a taken setting back too.
             records.settings[place] = old;
             Err(fault)
         }
