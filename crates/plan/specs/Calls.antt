@@ -4,7 +4,7 @@ use Rattle.kinds.specs.Time.{Time}
 use Rattle.network.specs.declared.faults.NetworkFault.TheVariants as network
 use Rattle.network.specs.Network.{Least, Names, NoTable}
 use Rattle.network.specs.Reckoning.{at}
-use Rattle.network.specs.Refusals.{Row, row, Answers}
+use Rattle.network.specs.Refusals.{Row, row}
 use Rattle.records.specs.Register.{Register, Memory, register_of}
 use Rattle.records.specs.Stored.{Stored}
 use Rattle.force.specs.Constraints.{arcs_in_force, in_force}
@@ -12,7 +12,7 @@ use Rattle.force.specs.Work.{WorkLengths, WorkListed}
 use Rattle.rules.specs.declared.faults.PlanFault.{PlanFault}
 use Rattle.rules.specs.declared.faults.PlanFault.TheVariants as fault
 use Rattle.rules.specs.declared.switches.Switch.{Switch}
-use Rattle.rules.specs.Faults.{plan_number, plan_place}
+use Rattle.rules.specs.Faults.{PlanAnswers}
 use Rattle.plan.specs.declared.states.Open.{Open}
 use Rattle.plan.specs.declared.states.Unopened.{Unopened}
 use Rattle.plan.specs.declared.states.Unreleased.{Unreleased}
@@ -80,7 +80,7 @@ module _ {K : Type 0} (t : Time K) where
     RingAnswer R was ring (Err f) = RingLeft R was ring f
 
     pub record Reckons (rows : List Row) (R : Register K) (was times : List K) (ring_was ring : List ℕ) (r : Result X PlanFault) : Type 0 where
-      pub answers : Answers plan_number plan_place (rows ++ ring_rows R) r
+      pub answers : PlanAnswers (rows ++ ring_rows R) r
       pub shows : TimesLeft R was times r
       pub names : RingAnswer R ring_was ring r
 

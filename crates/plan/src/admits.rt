@@ -1,11 +1,10 @@
 //! What the calls on an open plan refuse before they reckon.
 ghost use Rattle.std.specs.Prelude.{◌≡◌, ℕ, ◌/◌, ◌<◌, length, IfOk, Some, None, OnOk};
-ghost use Rattle.network.specs.Refusals.{Answers};
 ghost use Rattle.records.specs.Lent.{lists_in, lists_mut};
 ghost use Rattle.records.specs.Entered.{TakenFrom};
 ghost use Rattle.records.specs.Register.{register_of};
 ghost use Rattle.force.specs.Work.{work_lengths};
-ghost use Rattle.rules.specs.Faults.{plan_number, plan_place};
+ghost use Rattle.rules.specs.Faults.{PlanAnswers};
 ghost use Rattle.rules.specs.Rows.{setting_place, SoundOpen, open_rows};
 ghost use Rattle.plan.specs.States.{memory};
 ghost use Rattle.plan.specs.Steps.{report_memory, hold_memory, switch_memory};
@@ -25,7 +24,7 @@ pub(crate) fn check_work<K: Kind>(
     ring: usize,
     work: &Work<'_, K>,
 ) -> Result<(), PlanFault>
-    ensures rows { Answers plan_number plan_place (length_rows (lengths written ring (work_lengths work.now))) result }
+    ensures rows { PlanAnswers (length_rows (lengths written ring (work_lengths work.now))) result }
     ensures listed { OnOk result (Listed (lengths written ring (work_lengths work.now))) }
 {
     if written != 1_024 || ring != 1_024 || !work.is_listed() {
@@ -40,7 +39,7 @@ pub(crate) fn admit_shown<'v, K: Kind>(
     records: Records<'v, K>,
     times: &[K],
 ) -> Result<Entered<'v, K>, PlanFault>
-    ensures rows { Answers plan_number plan_place (open_rows K.Kind.time (memory numbers (lists_in records.entry)) times.now) result }
+    ensures rows { PlanAnswers (open_rows K.Kind.time (memory numbers (lists_in records.entry)) times.now) result }
     ensures sound { let m = memory numbers (lists_in records.entry) in IfOk result (λ e. TakenFrom K.Kind.time m e × SoundOpen K.Kind.time m times.now) }
 {
     check_open(numbers.view(records), times)
@@ -56,7 +55,7 @@ fn admit<'v, K: Kind>(
     ring: usize,
     work: &Work<'_, K>,
 ) -> Result<Entered<'v, K>, PlanFault>
-    ensures rows { Answers plan_number plan_place (open_call_rows K.Kind.time (lengths written ring (work_lengths work.now)) (memory numbers (lists_mut records.now)) times.now) result }
+    ensures rows { PlanAnswers (open_call_rows K.Kind.time (lengths written ring (work_lengths work.now)) (memory numbers (lists_mut records.now)) times.now) result }
     ensures listed { OnOk result (Listed (lengths written ring (work_lengths work.now))) }
     ensures sound { let m = memory numbers (lists_mut records.now) in IfOk result (λ e. TakenFrom K.Kind.time m e × SoundOpen K.Kind.time m times.now) }
 {
@@ -74,7 +73,7 @@ pub(crate) fn admit_report<K: Kind>(
     event: u16,
     at: K,
 ) -> Result<(), PlanFault>
-    ensures rows { Answers plan_number plan_place (report_call_rows K.Kind.time (lengths (length times.now) ring (work_lengths work.now)) (memory numbers (lists_mut records.now)) times.now event at) result }
+    ensures rows { PlanAnswers (report_call_rows K.Kind.time (lengths (length times.now) ring (work_lengths work.now)) (memory numbers (lists_mut records.now)) times.now event at) result }
     ensures ready { let m = memory numbers (lists_mut records.now) in OnOk result ((event / 2 < length records.now.runs.now) × Ready K.Kind.time (lengths (length times.now) ring (work_lengths work.now)) m (report_memory K.Kind.time m event at)) }
 {
     let e = admit(numbers, records, times, times.len(), ring, work)?;
@@ -91,7 +90,7 @@ pub(crate) fn admit_hold<K: Kind>(
     run: u16,
     until: K,
 ) -> Result<(), PlanFault>
-    ensures rows { Answers plan_number plan_place (hold_call_rows K.Kind.time (lengths (length times.now) ring (work_lengths work.now)) (memory numbers (lists_mut records.now)) times.now run until) result }
+    ensures rows { PlanAnswers (hold_call_rows K.Kind.time (lengths (length times.now) ring (work_lengths work.now)) (memory numbers (lists_mut records.now)) times.now run until) result }
     ensures ready { let m = memory numbers (lists_mut records.now) in OnOk result ((run < length records.now.runs.now) × Ready K.Kind.time (lengths (length times.now) ring (work_lengths work.now)) m (hold_memory K.Kind.time m run (Some until))) }
 {
     let e = admit(numbers, records, times, times.len(), ring, work)?;
@@ -108,7 +107,7 @@ pub(crate) fn admit_release<K: Kind>(
     slip_plan: u32,
     slip_run: u16,
 ) -> Result<(), PlanFault>
-    ensures rows { Answers plan_number plan_place (release_call_rows K.Kind.time (lengths (length times.now) ring (work_lengths work.now)) (memory numbers (lists_mut records.now)) times.now numbers.number slip_plan slip_run) result }
+    ensures rows { PlanAnswers (release_call_rows K.Kind.time (lengths (length times.now) ring (work_lengths work.now)) (memory numbers (lists_mut records.now)) times.now numbers.number slip_plan slip_run) result }
     ensures ready { let m = memory numbers (lists_mut records.now) in OnOk result ((slip_run < length records.now.runs.now) × Ready K.Kind.time (lengths (length times.now) ring (work_lengths work.now)) m (hold_memory K.Kind.time m slip_run None)) }
 {
     let e = admit(numbers, records, times, times.len(), ring, work)?;
@@ -127,7 +126,7 @@ pub(crate) fn admit_turning<K: Kind>(
     switch: Switch,
     setting: u8,
 ) -> Result<usize, PlanFault>
-    ensures rows { Answers plan_number plan_place (turning_call_rows K.Kind.time (lengths written ring (work_lengths work.now)) (memory numbers (lists_mut records.now)) times.now switch setting) result }
+    ensures rows { PlanAnswers (turning_call_rows K.Kind.time (lengths written ring (work_lengths work.now)) (memory numbers (lists_mut records.now)) times.now switch setting) result }
     ensures ready { let m = memory numbers (lists_mut records.now) in IfOk result (λ p. (p ≡ setting_place K.Kind.time (register_of K.Kind.time m) switch) × (p < length records.now.settings.now) × Ready K.Kind.time (lengths written ring (work_lengths work.now)) m (switch_memory K.Kind.time m switch setting)) }
 {
     let e = admit(numbers, records, times, written, ring, work)?;

@@ -1,11 +1,10 @@
 //! The calls on a draft.
 ghost use Rattle.std.specs.Prelude.{◌≡◌, ℕ, ◌+◌, ◌<◌, ◌≤◌, length, IfOk, MatchResult};
-ghost use Rattle.network.specs.Refusals.{Answers};
 ghost use Rattle.records.specs.Lent.{lists_in, lists_mut, SameRecords};
 ghost use Rattle.records.specs.Records.{track_of_lem};
 ghost use Rattle.records.specs.Places.{total};
 ghost use Rattle.records.specs.Register.{register_of};
-ghost use Rattle.rules.specs.Faults.{plan_number, plan_place};
+ghost use Rattle.rules.specs.Faults.{PlanAnswers};
 ghost use Rattle.rules.specs.Rows.{setting_of_lem};
 ghost use Rattle.plan.specs.States.{memory};
 ghost use Rattle.plan.specs.Steps.{cleared, track_memory, run_memory, connection_memory, switch_memory};
@@ -57,7 +56,7 @@ impl Draft {
         records: &mut RecordsMut<'_, K>,
         track: Track<K>,
     ) -> Result<u16, PlanFault>
-        ensures rows { Answers plan_number plan_place (track_call_rows K.Kind.time (memory self.old.numbers (lists_mut records.old)) track) result }
+        ensures rows { PlanAnswers (track_call_rows K.Kind.time (memory self.old.numbers (lists_mut records.old)) track) result }
         ensures writes { MatchResult result (λ n. (n ≡ self.old.numbers.tracks) × (memory self.new.numbers (lists_mut records.new) ≡ track_memory (memory self.old.numbers (lists_mut records.old)) track)) (λ _. (self.new ≡ self.old) × (lists_mut records.new ≡ lists_mut records.old)) }
         ensures number { self.new.numbers.number ≡ self.old.numbers.number }
         ensures lent { SameRecords records.old records.new }
@@ -75,7 +74,7 @@ impl Draft {
         records: &mut RecordsMut<'_, K>,
         run: Run<K>,
     ) -> Result<u16, PlanFault>
-        ensures rows { Answers plan_number plan_place (run_call_rows K.Kind.time (memory self.old.numbers (lists_mut records.old)) run) result }
+        ensures rows { PlanAnswers (run_call_rows K.Kind.time (memory self.old.numbers (lists_mut records.old)) run) result }
         ensures writes { MatchResult result (λ n. (n ≡ self.old.numbers.runs) × (memory self.new.numbers (lists_mut records.new) ≡ run_memory K.Kind.time (memory self.old.numbers (lists_mut records.old)) run)) (λ _. (self.new ≡ self.old) × (lists_mut records.new ≡ lists_mut records.old)) }
         ensures number { self.new.numbers.number ≡ self.old.numbers.number }
         ensures lent { SameRecords records.old records.new }
@@ -102,7 +101,7 @@ impl Draft {
         records: &mut RecordsMut<'_, K>,
         connection: Connection<K>,
     ) -> Result<u16, PlanFault>
-        ensures rows { Answers plan_number plan_place (connection_call_rows K.Kind.time (memory self.old.numbers (lists_mut records.old)) connection) result }
+        ensures rows { PlanAnswers (connection_call_rows K.Kind.time (memory self.old.numbers (lists_mut records.old)) connection) result }
         ensures writes { MatchResult result (λ n. (n ≡ self.old.numbers.connections) × (memory self.new.numbers (lists_mut records.new) ≡ connection_memory (memory self.old.numbers (lists_mut records.old)) connection)) (λ _. (self.new ≡ self.old) × (lists_mut records.new ≡ lists_mut records.old)) }
         ensures number { self.new.numbers.number ≡ self.old.numbers.number }
         ensures lent { SameRecords records.old records.new }
@@ -122,7 +121,7 @@ impl Draft {
         switch: Switch,
         setting: u8,
     ) -> Result<(), PlanFault>
-        ensures rows { Answers plan_number plan_place (preset_call_rows K.Kind.time (memory self.now.numbers (lists_mut records.old)) switch setting) result }
+        ensures rows { PlanAnswers (preset_call_rows K.Kind.time (memory self.now.numbers (lists_mut records.old)) switch setting) result }
         ensures writes { MatchResult result (λ _. memory self.now.numbers (lists_mut records.new) ≡ switch_memory K.Kind.time (memory self.now.numbers (lists_mut records.old)) switch setting) (λ _. lists_mut records.new ≡ lists_mut records.old) }
         ensures lent { SameRecords records.old records.new }
     {
@@ -133,7 +132,7 @@ impl Draft {
 
     /// The setting of an order or a connection.
     pub fn setting<K: Kind>(&self, records: Records<'_, K>, switch: Switch) -> Result<u8, PlanFault>
-        ensures rows { Answers plan_number plan_place (setting_call_rows K.Kind.time (memory self.now.numbers (lists_in records.entry)) switch) result }
+        ensures rows { PlanAnswers (setting_call_rows K.Kind.time (memory self.now.numbers (lists_in records.entry)) switch) result }
         ensures reads { IfOk result (λ s. s ≡ setting_of_lem K.Kind.time (register_of K.Kind.time (memory self.now.numbers (lists_in records.entry))) switch) }
     {
         let e = admit(self.numbers, records)?;

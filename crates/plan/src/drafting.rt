@@ -1,10 +1,10 @@
 //! What the calls on a draft refuse.
 ghost use Rattle.std.specs.Prelude.{◌≡◌, ◌+◌, ◌<◌, ◌≤◌, length, IfOk, OnOk};
-ghost use Rattle.network.specs.Refusals.{Answers, Passed};
+ghost use Rattle.network.specs.Refusals.{Passed};
 ghost use Rattle.records.specs.Lent.{lists_in, lists_mut};
 ghost use Rattle.records.specs.Entered.{TakenFrom};
 ghost use Rattle.records.specs.Register.{register_of};
-ghost use Rattle.rules.specs.Faults.{plan_number, plan_place};
+ghost use Rattle.rules.specs.Faults.{PlanAnswers};
 ghost use Rattle.rules.specs.Rows.{SoundDraft, draft_rows, setting_place, switch_rows};
 ghost use Rattle.plan.specs.States.{memory};
 ghost use Rattle.plan.specs.Steps.{orders_entered, orders_added};
@@ -14,13 +14,15 @@ use crate::states::Numbers;
 use kinds::Kind;
 use records::{Connection, Entered, Records, RecordsMut, Run, Track};
 use rules::{
-    PlanFault, Switch, check_connection, check_draft, check_run, check_setting,
-    check_track,
+    PlanFault, Switch, check_connection, check_draft, check_run, check_setting, check_track,
 };
 
 /// What every call on a draft refuses. Taken, what is entered of it.
-pub(crate) fn admit<'v, K: Kind>(numbers: Numbers, records: Records<'v, K>) -> Result<Entered<'v, K>, PlanFault>
-    ensures rows { Answers plan_number plan_place (draft_rows K.Kind.time (memory numbers (lists_in records.entry))) result }
+pub(crate) fn admit<'v, K: Kind>(
+    numbers: Numbers,
+    records: Records<'v, K>,
+) -> Result<Entered<'v, K>, PlanFault>
+    ensures rows { PlanAnswers (draft_rows K.Kind.time (memory numbers (lists_in records.entry))) result }
     ensures sound { let m = memory numbers (lists_in records.entry) in IfOk result (λ e. TakenFrom K.Kind.time m e × SoundDraft K.Kind.time m) }
 {
     check_draft(numbers.view(records))
@@ -31,7 +33,7 @@ fn admit_lent<'v, K: Kind>(
     numbers: Numbers,
     records: &'v RecordsMut<'_, K>,
 ) -> Result<Entered<'v, K>, PlanFault>
-    ensures rows { Answers plan_number plan_place (draft_rows K.Kind.time (memory numbers (lists_mut records.now))) result }
+    ensures rows { PlanAnswers (draft_rows K.Kind.time (memory numbers (lists_mut records.now))) result }
     ensures sound { let m = memory numbers (lists_mut records.now) in IfOk result (λ e. TakenFrom K.Kind.time m e × SoundDraft K.Kind.time m) }
 {
     admit(numbers, records.lent())
@@ -43,7 +45,7 @@ pub(crate) fn admit_track<K: Kind>(
     records: &RecordsMut<'_, K>,
     track: Track<K>,
 ) -> Result<(), PlanFault>
-    ensures rows { Answers plan_number plan_place (track_call_rows K.Kind.time (memory numbers (lists_mut records.now)) track) result }
+    ensures rows { PlanAnswers (track_call_rows K.Kind.time (memory numbers (lists_mut records.now)) track) result }
     ensures room { OnOk result (SoundDraft K.Kind.time (memory numbers (lists_mut records.now)) × (numbers.tracks < 64)) }
 {
     let e = admit_lent(numbers, records)?;
@@ -56,7 +58,7 @@ pub(crate) fn admit_run<K: Kind>(
     records: &RecordsMut<'_, K>,
     run: Run<K>,
 ) -> Result<(), PlanFault>
-    ensures rows { Answers plan_number plan_place (run_call_rows K.Kind.time (memory numbers (lists_mut records.now)) run) result }
+    ensures rows { PlanAnswers (run_call_rows K.Kind.time (memory numbers (lists_mut records.now)) run) result }
     ensures room { let m = memory numbers (lists_mut records.now) in OnOk result (SoundDraft K.Kind.time m × ((numbers.runs < 512) × ((run.track < 64) × (orders_entered K.Kind.time m + orders_added K.Kind.time m run.track ≤ 4096)))) }
 {
     let e = admit_lent(numbers, records)?;
@@ -69,7 +71,7 @@ pub(crate) fn admit_connection<K: Kind>(
     records: &RecordsMut<'_, K>,
     connection: Connection<K>,
 ) -> Result<(), PlanFault>
-    ensures rows { Answers plan_number plan_place (connection_call_rows K.Kind.time (memory numbers (lists_mut records.now)) connection) result }
+    ensures rows { PlanAnswers (connection_call_rows K.Kind.time (memory numbers (lists_mut records.now)) connection) result }
     ensures room { OnOk result (SoundDraft K.Kind.time (memory numbers (lists_mut records.now)) × (numbers.connections < 512)) }
 {
     let e = admit_lent(numbers, records)?;
@@ -83,7 +85,7 @@ pub(crate) fn admit_preset<K: Kind>(
     switch: Switch,
     setting: u8,
 ) -> Result<usize, PlanFault>
-    ensures rows { Answers plan_number plan_place (preset_call_rows K.Kind.time (memory numbers (lists_mut records.now)) switch setting) result }
+    ensures rows { PlanAnswers (preset_call_rows K.Kind.time (memory numbers (lists_mut records.now)) switch setting) result }
     ensures known { IfOk result (λ p. (p ≡ setting_place K.Kind.time (register_of K.Kind.time (memory numbers (lists_mut records.now))) switch) × (p < length records.now.settings.now)) }
 {
     let e = admit_lent(numbers, records)?;

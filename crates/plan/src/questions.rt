@@ -1,10 +1,9 @@
 //! The questions that an open plan answers. They write nothing.
 ghost use Rattle.std.specs.Prelude.{◌≡◌, ℕ, ◌++◌, IfOk};
 ghost use Rattle.network.specs.Reckoning.{at as time_at};
-ghost use Rattle.network.specs.Refusals.{Answers};
 ghost use Rattle.records.specs.Lent.{lists_in};
 ghost use Rattle.records.specs.Register.{register_of};
-ghost use Rattle.rules.specs.Faults.{plan_number, plan_place};
+ghost use Rattle.rules.specs.Faults.{PlanAnswers};
 ghost use Rattle.rules.specs.Rows.{open_rows, event_rows, switch_rows, setting_of_lem};
 ghost use Rattle.cost.specs.Cost.{delay_cost_lem};
 ghost use Rattle.plan.specs.States.{memory};
@@ -24,7 +23,7 @@ impl Open {
         times: &[K],
         event: u16,
     ) -> Result<K, PlanFault>
-        ensures rows { let m = memory self.now.numbers (lists_in records.entry) in Answers plan_number plan_place (open_rows K.Kind.time m times.now ++ event_rows K.Kind.time (register_of K.Kind.time m) event) result }
+        ensures rows { let m = memory self.now.numbers (lists_in records.entry) in PlanAnswers (open_rows K.Kind.time m times.now ++ event_rows K.Kind.time (register_of K.Kind.time m) event) result }
         ensures value { IfOk result (λ x. x ≡ time_at K.Kind.time times.now event) }
     {
         let e = admit_shown(self.numbers, records, times)?;
@@ -39,7 +38,7 @@ impl Open {
         times: &[K],
         switch: Switch,
     ) -> Result<u8, PlanFault>
-        ensures rows { let m = memory self.now.numbers (lists_in records.entry) in Answers plan_number plan_place (open_rows K.Kind.time m times.now ++ switch_rows K.Kind.time (register_of K.Kind.time m) switch) result }
+        ensures rows { let m = memory self.now.numbers (lists_in records.entry) in PlanAnswers (open_rows K.Kind.time m times.now ++ switch_rows K.Kind.time (register_of K.Kind.time m) switch) result }
         ensures value { IfOk result (λ x. x ≡ setting_of_lem K.Kind.time (register_of K.Kind.time (memory self.now.numbers (lists_in records.entry))) switch) }
     {
         let e = admit_shown(self.numbers, records, times)?;
@@ -48,7 +47,7 @@ impl Open {
 
     /// The delay cost of the times shown.
     pub fn cost<K: Kind>(&self, records: Records<'_, K>, times: &[K]) -> Result<u64, PlanFault>
-        ensures rows { Answers plan_number plan_place (open_rows K.Kind.time (memory self.now.numbers (lists_in records.entry)) times.now) result }
+        ensures rows { PlanAnswers (open_rows K.Kind.time (memory self.now.numbers (lists_in records.entry)) times.now) result }
         ensures value { IfOk result (λ n. n ≡ delay_cost_lem K.Kind.time (register_of K.Kind.time (memory self.now.numbers (lists_in records.entry))) (time_at K.Kind.time times.now)) }
     {
         let e = admit_shown(self.numbers, records, times)?;

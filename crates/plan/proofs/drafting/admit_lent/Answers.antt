@@ -1,4 +1,4 @@
-use Rattle.std.proofs.Common.{IfOk, ◌≡◌, subst}
+use Rattle.std.proofs.Common.{IfOk, subst}
 use Rattle.records.specs.Lent.{Lists}
 use Rattle.records.specs.Entered.{TakenFrom}
 use Rattle.rules.specs.Rows.{SoundDraft, draft_rows}

@@ -1,4 +1,4 @@
-use Rattle.std.proofs.Common.{length, arith}
+use Rattle.std.proofs.Common.{length, arith, refl}
 use Rattle.network.proofs.Refusals.{first_front}
 use Rattle.records.specs.Lent.{lists_in}
 use Rattle.records.specs.Register.{register_of}
@@ -6,8 +6,8 @@ use Rattle.force.specs.Work.{work_lengths}
 use Rattle.rules.specs.Rows.{draft_rows}
 use Rattle.plan.specs.States.{memory}
 use Rattle.plan.specs.Calls.{lengths, length_rows, opening_rows}
-use Rattle.plan.proofs.Told.{first_behind}
-use Rattle.plan.proofs.Reckoned.{refused}
+use Rattle.plan.proofs.Told.{first_behind, passed_behind}
+use Rattle.plan.proofs.Reckoned.{refused, reckons}
 use Rattle.plan.proofs.opening.start.Goals as goal
 
 pub returns-in_err-check_work-clause-reckons : goal.returns-in_err-check_work-clause-reckons
@@ -26,3 +26,12 @@ returns-in_err-check_draft-clause-reckons g c =
     let m = memory a.numbers (lists_in a.records) in
     refused t (opening_rows t l m) (register_of t m) (omega arith, (omega arith, (omega arith, (omega arith, tt)))) a.times.now a.ring.now _ _ c.from_residual-in_err-check_draft.ensures.1
     (first_behind (draft_rows t) _ _ c.view.ensures (length_rows l) _ _ c.in_ok-check_work.ensures.rows c.in_err-check_draft.ensures.rows)
+
+pub returns-clause-reckons : goal.returns-clause-reckons
+returns-clause-reckons g c =
+    let t = g.K.Kind.time in
+    let a = c.args in
+    let l = lengths (length a.times.now) (length a.ring.now) (work_lengths a.work.now) in
+    let m = memory a.numbers (lists_in a.records) in
+    let new = c.put_in_force.new in
+    reckons t a.times.now new.times a.ring.now new.ring (opening_rows t l m) (register_of t m) (register_of t m) c.put_in_force.result (passed_behind (draft_rows t) _ _ c.view.ensures (length_rows l) c.in_ok-check_work.ensures.rows c.in_ok-check_draft.ensures.rows) refl c.put_in_force.ensures.reckons

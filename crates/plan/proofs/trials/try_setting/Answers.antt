@@ -35,7 +35,7 @@ delay_cost-requires-clause-shown g c =
     let reckoned = reckons t a.trial.now new.times a.ring.now new.ring [] (R c.bytes.result.now) now (taken (Unit {0}) tt) tt (ap R c.bytes.ensures) c.in_ok-put_in_force.ensures.reckons in
     let long = long_runs t (memory a.numbers (lists a.tracks.now a.runs.now a.connections.now (set a.settings.now a.place a.setting))) c.requires.records.runs c.requires.stored in
     let shown : Shown t new.times (2 * a.numbers.runs) = record { each = λ v h. least_small t now c.requires.stored.limits g.met.K.Kind.laws (at t new.times) reckoned.shows.0 v (omega arith) } in
-    subst (λ (n : ℕ). Shown t new.times (2 * n)) (sym (ap (λ x. x.run_count) c.view-v.ensures)) shown
+    subst (λ (n : ℕ). Shown t new.times (2 * n)) (sym (c.of-e.ensures.runs ∙ ap (λ x. x.run_count) c.view.ensures)) shown
 
 pub returns-clause-reckons : goal.returns-clause-reckons
 returns-clause-reckons g c =

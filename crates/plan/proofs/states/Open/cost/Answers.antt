@@ -1,12 +1,10 @@
+use Rattle.records.specs.Lent.{lists_in}
+use Rattle.plan.specs.States.{memory}
 use Rattle.rules.specs.Rows.{open_rows}
-use Rattle.records.specs.Register.{Memory}
-use Rattle.plan.proofs.Told.{left_rows, passed}
+use Rattle.plan.proofs.Told.{left_answers}
 use Rattle.plan.proofs.states.Open.cost.Goals as goal
 
-pub returns-in_err-check_open-clause-rows : goal.returns-in_err-check_open-clause-rows
-returns-in_err-check_open-clause-rows g c =
-    left_rows _ _ c.from_residual.ensures.1 (λ (x : Memory g.row.K.Denot). open_rows g.K.Kind.time x c.args.times.now) _ _ c.view-v.ensures c.in_err-check_open.ensures.rows
-
-pub returns-clause-rows : goal.returns-clause-rows
-returns-clause-rows g c =
-    passed (λ (x : Memory g.row.K.Denot). open_rows g.K.Kind.time x c.args.times.now) _ _ c.view-v.ensures c.in_ok-check_open.ensures.rows
+pub returns-in_err-e-clause-rows : goal.returns-in_err-e-clause-rows
+returns-in_err-e-clause-rows g c =
+    let a = c.args in
+    left_answers _ _ c.from_residual.ensures.1 (open_rows g.K.Kind.time (memory a.self.now.numbers (lists_in a.records)) a.times.now) c.in_err-e.ensures.rows
