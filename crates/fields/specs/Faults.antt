@@ -23,13 +23,11 @@ book_layer f = layer.Book
 
 -- the offset of the field's tag, and 0 where no field is at fault
 abbrev pub book_place : BookFault → ℕ
-book_place fault.Length = 0
-book_place fault.Mark = 0
 book_place (fault.Code place) = place
 book_place (fault.Field place) = place
 book_place (fault.Order place) = place
-book_place fault.Short = 0
 book_place (fault.Plan f place) = place
+book_place _ = 0
 
 -- an answer of a plan's call, its fault with the place of the field that was entered
 abbrev pub placed_at : {X : Type 0} → ℕ → Result X PlanFault → Result X Placed

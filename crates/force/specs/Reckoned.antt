@@ -23,12 +23,8 @@ module _ {K : Type 0} (t : Time K) (R : Register K) where
 
   -- a ring is the only fault
   abbrev pub RingOnly : List ℕ → List ℕ → NetworkFault → Type 0
-  RingOnly was ring fault.Length = ⊥
-  RingOnly was ring (fault.Event place) = ⊥
-  RingOnly was ring fault.Floor = ⊥
-  RingOnly was ring fault.Duration = ⊥
-  RingOnly was ring fault.Count = ⊥
   RingOnly was ring (fault.Ring count) = RingFound was ring count
+  RingOnly was ring _ = ⊥
 
   -- taken, there is no ring and ring memory is as it was
   abbrev pub RingAfter : List ℕ → List ℕ → Result (Unit {0}) NetworkFault → Type 0

@@ -18,12 +18,8 @@ network_layer f = layer.Network
 
 -- of a 3 the number that names no event
 abbrev pub network_place : NetworkFault → ℕ
-network_place fault.Length = 0
 network_place (fault.Event place) = place
-network_place fault.Floor = 0
-network_place fault.Duration = 0
-network_place fault.Count = 0
-network_place (fault.Ring count) = 0
+network_place _ = 0
 
 -- what is printed of a layer
 abbrev pub layer_name : Layer → List ℕ

@@ -126,12 +126,8 @@ module _ {K : Type 0} where
 
     -- refused for a ring, its events stand at the front of ring memory and the rest is as it was; otherwise all of it is
     abbrev pub RingAfter : Listed K → List ℕ → List ℕ → NetworkFault → Type 0
-    RingAfter l was ring fault.Length = ring ≡ was
-    RingAfter l was ring (fault.Event place) = ring ≡ was
-    RingAfter l was ring fault.Floor = ring ≡ was
-    RingAfter l was ring fault.Duration = ring ≡ was
-    RingAfter l was ring fault.Count = ring ≡ was
     RingAfter l was ring (fault.Ring count) = Names t (placed t (kept_arcs l)) (take count ring) × (drop count ring ≡ drop count was) × (count ≤ l.events)
+    RingAfter l was ring _ = ring ≡ was
 
     abbrev pub RingHolds : Listed K → List ℕ → List ℕ → Result (Unit {0}) NetworkFault → Type 0
     RingHolds l was ring (Ok x) = ring ≡ was
