@@ -4,13 +4,11 @@
 ghost use Rattle.std.specs.Prelude.{◌≡◌, ◌+◌, ◌*◌, ◌<◌, ◌≤◌, length, if◌then◌else◌, ◌==◌};
 ghost use Rattle.network.specs.Reckoning.{at};
 ghost use Rattle.records.specs.Entered.{register_in};
-ghost use Rattle.records.specs.Places.{Laid};
 ghost use Rattle.records.specs.Stored.{Shown};
-ghost use Rattle.force.specs.Force.{track_in};
 ghost use Rattle.cost.specs.Cost.{turn_costs, lateness_cost_lem, broken_cost_lem, turned_cost_lem, delay_cost_lem, CostsLeast};
 
 use kinds::Kind;
-use records::{Entered, Place, Run};
+use records::{Entered, Layout, Place, Run};
 
 // What a run costs that arrives at `time`.
 fn late_cost<K: Kind>(run: Run<K>, time: K) -> u64
@@ -57,21 +55,18 @@ fn broken_cost<K: Kind>(e: &Entered<'_, K>) -> u64
 }
 
 // What the turned orders of run `j` with earlier runs cost.
-fn turned_of<K: Kind>(e: &Entered<'_, K>, places: &[Place], j: usize) -> u64
-    requires laid { Laid (track_in K.Kind.time (register_in K.Kind.time e.now)) (length e.now.runs.now) places.now }
-    requires room { length e.now.runs.now ≤ length places.now }
-    requires inside { j < length e.now.runs.now }
-    ensures cost { result ≡ turn_costs K.Kind.time (register_in K.Kind.time e.now) j }
+fn turned_of<K: Kind>(layout: &Layout<'_, '_, K>, j: usize) -> u64
+    requires inside { j < length layout.now.entered.now.runs.now }
+    ensures cost { result ≡ turn_costs K.Kind.time (register_in K.Kind.time layout.now.entered.now) j }
     ensures few { result ≤ 512000000 }
 {
+    let e = layout.entered;
     let penalty = e.track(e.run(j).track as usize).penalty;
-    let first = places[j].sum as usize;
     let mut sum = 0;
-    let mut next = places[j].before;
+    let mut next = layout.before(j);
     while let Some(i) = next {
-        let place = places[i as usize];
-        sum += penalty_if(e.settings[first + place.earlier as usize], penalty);
-        next = place.before;
+        sum += penalty_if(layout.setting(i, j), penalty);
+        next = layout.before(i);
     }
     sum
 }
@@ -83,9 +78,10 @@ fn turned_cost<K: Kind>(e: &Entered<'_, K>, places: &mut [Place]) -> u64
     ensures few { result ≤ 262144000000 }
 {
     e.lay_out(places);
+    let layout = Layout { entered: e, places };
     let mut sum = 0;
     for j in 0..e.runs.len() {
-        sum += turned_of(e, places, j);
+        sum += turned_of(&layout, j);
     }
     sum
 }

@@ -192,21 +192,6 @@ tally_more f j xs track v on inside is old x h =
       | inr ne ↦ get_or-set_other xs track x (v + 1) 0 ne ∙ old x h ∙ sym (count_miss f x j (λ here. ne (sym here ∙ sym on)))
     ]
 
--- the run before run i on its track x
-pub previous_of : (f : ℕ → ℕ) (n x i : ℕ) (ps : List Place) → Laid f n ps → i < n → f i ≡ x → Previous f x i (laid_for ps i).before
-previous_of f n x i ps laid inside e = let P : ℕ → Type 0 = λ y. Previous f y i (laid_for ps i).before in subst P e (laid.before i inside)
-
--- a step back to the run before passes one run of the track
-pub count_back : (f : ℕ → ℕ) (x j p : ℕ) → Previous f x j (Some p) → count f x j ≡ count f x p + 1
-count_back f x j p prev =
-    let still = count_still f x (p + 1) j (omega (arith, prev.on.0)) (λ k a b. prev.none k b (omega arith)) in
-    let hit = count_hit f x p prev.on.1 in
-    omega arith
-
--- with no run before, there is none to pass
-pub count_first : (f : ℕ → ℕ) (x j : ℕ) → Previous f x j None → count f x j ≡ 0
-count_first f x j prev = count_still f x 0 j (omega arith) (λ k a b. prev.none k b tt)
-
 -- what is laid out finds the byte
 pub laid_place : (f : ℕ → ℕ) (n i j : ℕ) (ps : List Place) → Laid f n ps → j < n → i < j → f i ≡ f j → ((laid_for ps j).sum + (laid_for ps i).earlier ≡ place f i j) × ((laid_for ps j).sum + (laid_for ps i).earlier < total f n)
 laid_place f n i j ps laid in_j below shared =

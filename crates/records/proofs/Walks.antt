@@ -1,8 +1,7 @@
 -- A walk from run j back over the earlier runs on its track, the nearest first. f k is the track of run k.
-use Rattle.std.proofs.Common.{◌≡◌, ℕ, ◌+◌, ◌<◌, ◌≤◌, ◌≢◌, List, refl, Some, None, Option, IfSome, ap, subst, arith}
-use Rattle.records.specs.declared.places.Place.{Place}
-use Rattle.records.specs.Places.{count, total, place, Ordered, Previous, Laid, laid_for}
-use Rattle.records.proofs.Counts.{count_hit, count_still, laid_place}
+use Rattle.std.proofs.Common.{◌≡◌, ℕ, ◌+◌, ◌<◌, ◌≤◌, ◌≢◌, Some, None, Option, IfSome, ap, subst, arith}
+use Rattle.records.specs.Places.{count, Ordered, Previous}
+use Rattle.records.proofs.Counts.{count_hit, count_still}
 
 -- one past the next run of the walk, and 0 past its end
 abbrev pub past : Option ℕ → ℕ
@@ -56,30 +55,3 @@ met f n j i o inside on is =
     let here = ap (count f (f j)) at in
     let hit = count_hit f (f j) i h.1 in
     record { at = at; ordered = record { below = h.0; inside = inside; shared = h.1 }; counted = omega arith }
-
--- where a walk begins by what is laid out
-pub walk_start : (f : ℕ → ℕ) (n j : ℕ) (ps : List Place) → Laid f n ps → j < n → Reached f j j (laid_for ps j).before
-walk_start f n j ps laid inside = reached f j j (laid_for ps j).before (omega arith) refl (laid.before j inside)
-
--- a step of it: the byte of the order of i and j is found, and the walk goes on below i
-pub record Step (f : ℕ → ℕ) (n j i : ℕ) (ps : List Place) : Type 0 where
-  pub ordered : Ordered f n i j
-  pub found : (laid_for ps j).sum + (laid_for ps i).earlier ≡ place f i j
-  pub below : (laid_for ps j).sum + (laid_for ps i).earlier < total f n
-  pub counted : count f (f j) (i + 1) ≡ count f (f j) i + 1
-  pub next : Reached f j i (laid_for ps i).before
-
-pub walk_step : (f : ℕ → ℕ) (n j i : ℕ) (o : Option ℕ) (ps : List Place) → Laid f n ps → j < n → OnTrack f j o → o ≡ Some i → Step f n j i ps
-walk_step f n j i o ps laid inside on is =
-    let m = met f n j i o inside on is in
-    let at = laid_place f n i j ps laid inside m.ordered.below m.ordered.shared in
-    record {
-      ordered = m.ordered;
-      found = at.0;
-      below = at.1;
-      counted = count_hit f (f j) i m.ordered.shared;
-      next = reached f j i (laid_for ps i).before (omega (arith, m.ordered.below)) m.ordered.shared (laid.before i (omega (arith, m.ordered.below)));
-    }
-
-pub count_past : (f : ℕ → ℕ) (x : ℕ) (o : Option ℕ) (p : ℕ) → o ≡ Some p → count f x (past o) ≡ count f x (p + 1)
-count_past f x o p is = ap (λ (o : Option ℕ). count f x (past o)) is

@@ -8,7 +8,7 @@ use Rattle.cost.proofs.turned_of.Given as goal
 abbrev pub invariant-loop-next : goal.invariant-loop-next
 invariant-loop-next g l =
     let t = g.K.Kind.time in
-    let R = register_in t l.e in
+    let R = register_in t l.layout.entered.now in
     (l.sum + sum_below (past l.next) (turn_cost t R l.j) ≡ turn_costs t R l.j)
     × (past l.next ≤ l.j)
     × OnTrack (track_in t R) l.j l.next
