@@ -80,6 +80,7 @@ fn turned_cost<K: Kind>(e: &Entered<'_, K>, places: &mut [Place]) -> u64
     e.lay_out(places);
     let layout = Layout { entered: e, places };
     let mut sum = 0;
+    // Stays: `j` is the number of a run, and no place that is read here.
     for j in 0..e.runs.len() {
         sum += turned_of(&layout, j);
     }

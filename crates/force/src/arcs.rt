@@ -174,6 +174,7 @@ impl<K: Kind> ArcList<'_, K> {
         ensures added { Added K.Kind.time (OrderArcs K.Kind.time (register_in K.Kind.time layout.now.entered.now) (length layout.now.entered.now.runs.now)) self.old self.new }
         ensures room { self.new.count ≤ self.old.count + 2 * total (track_in K.Kind.time (register_in K.Kind.time layout.now.entered.now)) (length layout.now.entered.now.runs.now) }
     {
+        // Stays: `j` is the number of a run, and no place that is read here.
         for j in 0..layout.entered.runs.len() {
             self.push_orders_of(layout, j);
         }

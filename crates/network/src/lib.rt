@@ -132,6 +132,7 @@ fn settle<K: Kind>(
 {
     let n = kept.floors.len();
     times.copy_from_slice(kept.floors);
+    // Stays: rows in chunks of `n` would need a case of their own for a network with no event.
     for k in 0..n {
         let start = k * n;
         let row = &mut rows[start..start + n];
@@ -166,6 +167,7 @@ fn trace<K: Kind>(
     seen.fill(NO_ARC);
     let mut event = v;
     let mut count = 0;
+    // Stays: the walk goes from event to event as the rows tell, and counts its steps.
     while seen[event] == NO_ARC {
         seen[event] = count as u16;
         let arc = rows[(n - 1 - count) * n + event];

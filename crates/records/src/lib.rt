@@ -60,6 +60,7 @@ pub struct Track<K> {
 pub struct Run<K> {
     pub train: u16,
     pub track: u16,
+    // Stays: a number, since a direction that is neither 0 nor 1 has to be seen and refused. So are the settings.
     pub direction: u8,
     pub weight: u16,
     pub predecessor: Option<u16>,
