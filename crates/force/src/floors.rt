@@ -1,11 +1,11 @@
 //! The floors of a plan's events.
 ghost use Rattle.std.specs.Prelude.{◌≡◌, ℕ, ◌*◌, ◌≤◌, length};
-ghost use Rattle.records.specs.Entered.{register_in};
+ghost use Rattle.records.specs.Lent.{lists_in, register_lent};
 ghost use Rattle.force.specs.Floors.{departure_floor_lem, arrival_floor_lem};
 ghost use Rattle.force.specs.Added.{Filled};
 
 use kinds::Kind;
-use records::{Entered, Run};
+use records::{Records, Run};
 
 // The report, else the later of the schedule and the hold.
 fn departure_floor<K: Kind>(run: Run<K>) -> K
@@ -26,11 +26,11 @@ fn arrival_floor<K: Kind>(run: Run<K>) -> K
 }
 
 /// Writes the floor of each event of the entered runs to the front of `floors`.
-pub fn fill_floors<K: Kind>(e: &Entered<'_, K>, floors: &mut [K])
-    requires { 2 * length e.now.runs.now ≤ length floors.old }
-    ensures { Filled K.Kind.time (register_in K.Kind.time e.now) floors.new }
+pub fn fill_floors<K: Kind>(records: &Records<'_, K>, floors: &mut [K])
+    requires { 2 * length records.now.runs.now ≤ length floors.old }
+    ensures { Filled K.Kind.time (register_lent K.Kind.time (lists_in records.now)) floors.new }
 {
-    for (r, run) in e.runs.iter().enumerate() {
+    for (r, run) in records.runs.iter().enumerate() {
         floors[2 * r] = departure_floor(*run);
         floors[2 * r + 1] = arrival_floor(*run);
     }

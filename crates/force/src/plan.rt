@@ -26,7 +26,7 @@ fn reckon_over<K: Kind>(
     ensures times { TimesAfter K.Kind.time (register_in K.Kind.time e.now) times.old times.new result }
     ensures ring { RingAfter K.Kind.time (register_in K.Kind.time e.now) ring.old ring.new result }
 {
-    fill_floors(e, floors);
+    fill_floors(&e.records(), floors);
     let arc_count = fill_arcs(e, places, arcs);
     let listing = Listing {
         events: e.events(),

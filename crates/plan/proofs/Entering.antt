@@ -1,10 +1,12 @@
 -- What is known once no row of a call on a draft applies, and the orders that a new run brings.
-use Rattle.std.proofs.Common.{◌≡◌, ℕ, ◌+◌, ◌<◌, ◌≤◌, List, length, take, set, IfOk, Ok, Err, Result, sym, ap, ◌∙◌, subst, inl, inr, arith}
+use Rattle.std.proofs.Common.{◌≡◌, ℕ, ◌+◌, ◌<◌, ◌≤◌, List, length, take, set, IfOk, OnOk, Ok, Err, Result, sym, ap, ◌∙◌, subst, inl, inr, arith}
 use Rattle.std.proofs.lemmas.Bool.{cases_lt}
 use Rattle.std.proofs.lemmas.List.{get_or-set_same, get_or-set_other, get_or-take}
 use Rattle.kinds.specs.Time.{Time}
 use Rattle.network.specs.Refusals.{Answers}
 use Rattle.records.specs.declared.Run.{Run}
+use Rattle.records.specs.declared.Track.{Track}
+use Rattle.records.specs.declared.Connection.{Connection}
 use Rattle.records.specs.Records.{track_of_lem}
 use Rattle.records.specs.Places.{total, count}
 use Rattle.records.specs.Register.{Register, Memory, register_of}
@@ -12,12 +14,21 @@ use Rattle.records.proofs.Counts.{total_more, total_kept, count_kept}
 use Rattle.rules.specs.declared.faults.PlanFault.{PlanFault}
 use Rattle.rules.specs.Faults.{plan_number, plan_place}
 use Rattle.rules.specs.declared.switches.Switch.{Switch}
-use Rattle.rules.specs.Rows.{SoundDraft, run_rows, setting_place, PlaceOf}
+use Rattle.rules.specs.Rows.{SoundDraft, track_rows, run_rows, connection_rows, setting_place, PlaceOf}
 use Rattle.plan.specs.Steps.{orders_entered, orders_added}
 use Rattle.plan.proofs.Stays.{long_runs}
 use Rattle.rules.proofs.Rows.{run_passed}
 
 module _ {K : Type 0} (t : Time K) where
+  -- there is room for what is taken
+  pub track_room : (S : Type 0) (R : Register K) (x : Track K) (n : ℕ) (r : Result (Unit {0}) PlanFault) → S → length R.tracks ≡ n → Answers plan_number plan_place (track_rows t R x) r → OnOk r (S × (n < 64))
+  track_room S R x n (Err f) s e a = tt
+  track_room S R x n (Ok u) s e a = (s, elim (cases_lt n 64) [ inl l ↦ l | inr h ↦ absurd (a.1.0 (omega arith)) ])
+
+  pub connection_room : (S : Type 0) (R : Register K) (x : Connection K) (n : ℕ) (r : Result (Unit {0}) PlanFault) → S → length R.connections ≡ n → Answers plan_number plan_place (connection_rows t R x) r → OnOk r (S × (n < 512))
+  connection_room S R x n (Err f) s e a = tt
+  connection_room S R x n (Ok u) s e a = (s, elim (cases_lt n 512) [ inl l ↦ l | inr h ↦ absurd (a.1.1.1.1.0 (omega arith)) ])
+
   module _ (m : Memory K) (sound : SoundDraft t m) where
     long : length (take m.run_count m.runs) ≡ m.run_count
     long = long_runs t m sound.listed.runs sound.stored

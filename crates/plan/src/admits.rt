@@ -77,7 +77,7 @@ pub(crate) fn admit_report<K: Kind>(
     ensures ready { let m = memory numbers (lists_mut records.now) in OnOk result ((event / 2 < length records.now.runs.now) × Ready K.Kind.time (lengths (length times.now) ring (work_lengths work.now)) m (report_memory K.Kind.time m event at)) }
 {
     let e = admit(numbers, records, times, times.len(), ring, work)?;
-    check_report(&e, event, at)
+    check_report(&e.records(), event, at)
 }
 
 /// What a hold refuses before it reckons.
@@ -94,7 +94,7 @@ pub(crate) fn admit_hold<K: Kind>(
     ensures ready { let m = memory numbers (lists_mut records.now) in OnOk result ((run < length records.now.runs.now) × Ready K.Kind.time (lengths (length times.now) ring (work_lengths work.now)) m (hold_memory K.Kind.time m run (Some until))) }
 {
     let e = admit(numbers, records, times, times.len(), ring, work)?;
-    check_hold(&e, run, until)
+    check_hold(&e.records(), run, until)
 }
 
 /// What a release refuses before it reckons.
@@ -111,7 +111,7 @@ pub(crate) fn admit_release<K: Kind>(
     ensures ready { let m = memory numbers (lists_mut records.now) in OnOk result ((slip_run < length records.now.runs.now) × Ready K.Kind.time (lengths (length times.now) ring (work_lengths work.now)) m (hold_memory K.Kind.time m slip_run None)) }
 {
     let e = admit(numbers, records, times, times.len(), ring, work)?;
-    check_release(&e, numbers.number, slip_plan, slip_run)
+    check_release(&e.records(), numbers.number, slip_plan, slip_run)
 }
 
 /// What turning a setting refuses before it reckons; taken, the place of its byte. `written` is the length of the memory that the

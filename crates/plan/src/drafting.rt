@@ -49,7 +49,7 @@ pub(crate) fn admit_track<K: Kind>(
     ensures room { OnOk result (SoundDraft K.Kind.time (memory numbers (lists_mut records.now)) × (numbers.tracks < 64)) }
 {
     let e = admit_lent(numbers, records)?;
-    check_track(&e, track)
+    check_track(&e.records(), track)
 }
 
 /// What entering a run refuses. Taken, there is room for it and for its orders.
@@ -75,7 +75,7 @@ pub(crate) fn admit_connection<K: Kind>(
     ensures room { OnOk result (SoundDraft K.Kind.time (memory numbers (lists_mut records.now)) × (numbers.connections < 512)) }
 {
     let e = admit_lent(numbers, records)?;
-    check_connection(&e, connection)
+    check_connection(&e.records(), connection)
 }
 
 /// What giving a switch of a draft a setting refuses; taken, the place of its byte.

@@ -27,7 +27,7 @@ impl Open {
         ensures value { IfOk result (λ x. x ≡ time_at K.Kind.time times.now event) }
     {
         let e = admit_shown(self.numbers, records, times)?;
-        check_event(&e, event)?;
+        check_event(&e.records(), event)?;
         Ok(times[event as usize])
     }
 

@@ -3,7 +3,12 @@ use Rattle.std.specs.Prelude.{◌≡◌, length}
 use Rattle.kinds.specs.Time.{Time}
 use Rattle.records.specs.declared.within.Entered.{Entered}
 use Rattle.records.specs.Register.{Register, Memory, register_from, register_of}
+use Rattle.records.specs.Lent.{Lists}
 use Rattle.records.specs.Stored.{Stored}
+
+-- what is entered, as lists
+abbrev pub lists_of : {K : Type 0} {g : _} → Entered K g → Lists K
+lists_of e = record { tracks = e.tracks.now; runs = e.runs.now; connections = e.connections.now; settings = e.settings.now }
 
 module _ {K : Type 0} {g : _} (t : Time K) where
   -- the register of what is entered

@@ -5,7 +5,8 @@ use Rattle.records.specs.declared.Track.{Track}
 use Rattle.records.specs.declared.Connection.{Connection}
 use Rattle.records.specs.declared.lent.Records.{Records}
 use Rattle.records.specs.declared.lent.RecordsMut.{RecordsMut}
-use Rattle.records.specs.Register.{Memory}
+use Rattle.kinds.specs.Time.{Time}
+use Rattle.records.specs.Register.{Register, Memory, register_from}
 
 -- Whole lists of records, and the bytes of the settings.
 pub record Lists (K : Type 0) : Type 0 where
@@ -29,6 +30,10 @@ module _ {K : Type 0} where
     connections = take m.connection_count m.connections;
     settings = m.settings;
   }
+
+  -- the register of all that the lists hold
+  abbrev pub register_lent : Time K → Lists K → Register K
+  register_lent t l = register_from t l.tracks l.runs l.connections l.settings
 
   -- the same memories are lent after a call as before it
   pub record SameRecords (m m' : RecordsMut K) : Type 0 where

@@ -1,6 +1,7 @@
 //! The memories of a plan's records and settings, as they are lent to a call.
-ghost use Rattle.std.specs.Prelude.{◌≡◌};
+ghost use Rattle.std.specs.Prelude.{◌≡◌, ◌<◌, length};
 ghost use Rattle.records.specs.Lent.{lists_in, lists_mut};
+ghost use Rattle.records.specs.Records.{run_at};
 
 use crate::{Connection, Run, Track};
 use kinds::Kind;
@@ -12,6 +13,16 @@ pub struct Records<'m, K> {
     pub runs: &'m [Run<K>],
     pub connections: &'m [Connection<K>],
     pub settings: &'m [u8],
+}
+
+impl<K: Kind> Records<'_, K> {
+    /// The run at place `i`.
+    pub fn run(&self, i: usize) -> Run<K>
+        requires { i < length self.now.runs.now }
+        ensures { result ≡ run_at K.Kind.time self.now.runs.now i }
+    {
+        self.runs[i]
+    }
 }
 
 /// The same memories, lent to be written.

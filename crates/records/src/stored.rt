@@ -1,6 +1,7 @@
 //! Whether what is stored can stand.
 ghost use Rattle.std.specs.Prelude.{◌≡◌, ℕ, ◌+◌, ◌≤◌, length, Decides, All, MatchOption};
-ghost use Rattle.records.specs.Entered.{register_in, TakenFrom};
+ghost use Rattle.records.specs.Entered.{TakenFrom};
+ghost use Rattle.records.specs.Lent.{lists_in, register_lent};
 ghost use Rattle.records.specs.Register.{seen, register_from};
 ghost use Rattle.records.specs.Stored.{Limits, Duration, SizedIfAny, TrackStored, Scheduled, Linked, Reported, RunStored, ConnectionStored, TracksStored, RunsStored, ConnectionsStored, FlagsStored, Stored, Unused, Drafted, Shown};
 
@@ -155,10 +156,10 @@ fn runs_unused<K: Kind>(runs: &[Run<K>]) -> bool
 }
 
 /// Whether no entered run is reported or held.
-pub fn check_drafted<K: Kind>(e: &Entered<'_, K>) -> bool
-    ensures { Decides result (Drafted K.Kind.time (register_in K.Kind.time e.now)) }
+pub fn check_drafted<K: Kind>(records: &Records<'_, K>) -> bool
+    ensures { Decides result (Drafted K.Kind.time (register_lent K.Kind.time (lists_in records.now))) }
 {
-    runs_unused(e.runs)
+    runs_unused(records.runs)
 }
 
 // Stays: a slice of these times alone is no plainer, since the promises above speak of the whole memory and its first events.

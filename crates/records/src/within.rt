@@ -18,7 +18,8 @@ pub struct Entered<'v, K: Kind> {
 
 impl<'v, K: Kind> Entered<'v, K> {
     ghost use Rattle.std.specs.Prelude.{◌≡◌, ℕ, ◌*◌, ◌<◌, ◌≤◌, length};
-    ghost use Rattle.records.specs.Entered.{TakenFrom};
+    ghost use Rattle.records.specs.Entered.{TakenFrom, lists_of};
+    ghost use Rattle.records.specs.Lent.{lists_in};
     ghost use Rattle.records.specs.Places.{total, Laid};
     ghost use Rattle.records.specs.Records.{track_at, run_at, connection_at, track_of_lem};
     ghost use Rattle.records.specs.Register.{seen};
@@ -41,6 +42,18 @@ impl<'v, K: Kind> Entered<'v, K> {
             runs,
             connections,
             settings,
+        }
+    }
+
+    /// What is entered, with no word of its limits.
+    pub fn records(&self) -> Records<'v, K>
+        ensures { lists_in result ≡ lists_of self.now }
+    {
+        Records {
+            tracks: self.tracks,
+            runs: self.runs,
+            connections: self.connections,
+            settings: self.settings,
         }
     }
 

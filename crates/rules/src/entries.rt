@@ -1,6 +1,7 @@
 //! What entering a record refuses.
 ghost use Rattle.std.specs.Prelude.{◌≡◌, ◌<◌, ◌≤◌, ◌⊎◌, length, Decides};
 ghost use Rattle.records.specs.Entered.{register_in};
+ghost use Rattle.records.specs.Lent.{lists_in, register_lent};
 ghost use Rattle.records.specs.Records.{track_of_lem};
 ghost use Rattle.records.specs.Places.{count};
 ghost use Rattle.rules.specs.Faults.{PlanAnswers};
@@ -9,18 +10,18 @@ ghost use Rattle.rules.specs.Rows.{track_rows, orders_with, run_rows, connection
 use crate::{PlanFault, over};
 use kinds::Kind;
 use records::{
-    CONNECTIONS, Connection, Entered, ORDERS, PENALTY, RUNS, Run, TRACKS, Track, WEIGHT,
+    CONNECTIONS, Connection, Entered, ORDERS, PENALTY, RUNS, Records, Run, TRACKS, Track, WEIGHT,
     count_orders, duration_fits,
 };
 
 /// What entering a track refuses.
-pub fn check_track<K: Kind>(e: &Entered<'_, K>, track: Track<K>) -> Result<(), PlanFault>
-    ensures { PlanAnswers (track_rows K.Kind.time (register_in K.Kind.time e.now) track) result }
+pub fn check_track<K: Kind>(records: &Records<'_, K>, track: Track<K>) -> Result<(), PlanFault>
+    ensures { PlanAnswers (track_rows K.Kind.time (register_lent K.Kind.time (lists_in records.now)) track) result }
 {
     if !duration_fits(track.headway) || !duration_fits(track.meeting) {
         return Err(PlanFault::Duration);
     }
-    if e.tracks.len() >= TRACKS {
+    if records.tracks.len() >= TRACKS {
         return Err(PlanFault::Count);
     }
     if track.penalty > PENALTY {
@@ -72,22 +73,22 @@ pub fn check_run<K: Kind>(e: &Entered<'_, K>, run: Run<K>) -> Result<(), PlanFau
 
 /// What entering a connection refuses.
 pub fn check_connection<K: Kind>(
-    e: &Entered<'_, K>,
+    records: &Records<'_, K>,
     connection: Connection<K>,
 ) -> Result<(), PlanFault>
-    ensures { PlanAnswers (connection_rows K.Kind.time (register_in K.Kind.time e.now) connection) result }
+    ensures { PlanAnswers (connection_rows K.Kind.time (register_lent K.Kind.time (lists_in records.now)) connection) result }
 {
     let Connection { feeder, onward, .. } = connection;
-    if feeder as usize >= e.runs.len() {
+    if feeder as usize >= records.runs.len() {
         return Err(PlanFault::Unknown { place: feeder });
     }
-    if onward as usize >= e.runs.len() || feeder == onward {
+    if onward as usize >= records.runs.len() || feeder == onward {
         return Err(PlanFault::Unknown { place: onward });
     }
     if !duration_fits(connection.time) {
         return Err(PlanFault::Duration);
     }
-    if e.connections.len() >= CONNECTIONS {
+    if records.connections.len() >= CONNECTIONS {
         return Err(PlanFault::Count);
     }
     if connection.penalty > PENALTY {

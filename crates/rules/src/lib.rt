@@ -20,7 +20,7 @@ pub use entries::{check_connection, check_run, check_track};
 pub use faults::PlanFault;
 pub use records::{CONNECTIONS, RUNS, TIME_SIZE, TRACKS};
 pub use reports::{check_event, check_hold, check_release, check_report};
-pub use settings::{check_setting, check_switch, check_turning, find_setting};
+pub use settings::{check_setting, check_switch, check_turning, find_place, find_setting};
 pub use switches::Switch;
 
 /// The length of the memory of setting bytes: 4,096 of orders, then 512 of connections.
@@ -50,7 +50,7 @@ pub fn check_draft<'v, K: Kind>(v: View<'v, K>) -> Result<Entered<'v, K>, PlanFa
     let Some(e) = check_stored(v) else {
         return Err(PlanFault::Stored);
     };
-    if !check_drafted(&e) {
+    if !check_drafted(&e.records()) {
         return Err(PlanFault::Stored);
     }
     Ok(e)

@@ -2,6 +2,7 @@
 ghost use Rattle.std.specs.Prelude.{◌≡◌, ◌<◌, length, Decides, IfOk};
 ghost use Rattle.network.specs.Refusals.{Passed};
 ghost use Rattle.records.specs.Entered.{register_in};
+ghost use Rattle.records.specs.Lent.{lists_in, register_lent};
 ghost use Rattle.records.specs.Records.{track_of_lem};
 ghost use Rattle.records.specs.Places.{place, Ordered};
 ghost use Rattle.rules.specs.Faults.{PlanAnswers};
@@ -11,18 +12,37 @@ ghost use Rattle.rules.specs.declared.switches.Switch.TheVariants as named;
 use crate::entries::count_on;
 use crate::{PlanFault, Switch};
 use kinds::Kind;
-use records::{Entered, ORDERS, count_orders};
+use records::{Entered, ORDERS, Records, count_orders};
 
-fn check_order<K: Kind>(e: &Entered<'_, K>, i: u16, j: u16) -> Result<(), PlanFault>
-    ensures { PlanAnswers (switch_rows K.Kind.time (register_in K.Kind.time e.now) (named.Order i j)) result }
+fn check_order<K: Kind>(records: &Records<'_, K>, i: u16, j: u16) -> Result<(), PlanFault>
+    ensures { PlanAnswers (switch_rows K.Kind.time (register_lent K.Kind.time (lists_in records.now)) (named.Order i j)) result }
 {
-    if i as usize >= e.runs.len() {
+    let runs = records.runs.len();
+    if i as usize >= runs {
         return Err(PlanFault::Unknown { place: i });
     }
-    if j as usize >= e.runs.len() || j <= i || e.run(i as usize).track != e.run(j as usize).track {
+    if j as usize >= runs
+        || j <= i
+        || records.run(i as usize).track != records.run(j as usize).track
+    {
         return Err(PlanFault::Unknown { place: j });
     }
     Ok(())
+}
+
+/// What naming an order or a connection refuses.
+pub fn check_switch<K: Kind>(records: &Records<'_, K>, switch: Switch) -> Result<(), PlanFault>
+    ensures { PlanAnswers (switch_rows K.Kind.time (register_lent K.Kind.time (lists_in records.now)) switch) result }
+{
+    match switch {
+        Switch::Order { i, j } => check_order(records, i, j),
+        Switch::Connection { c } => {
+            if c as usize >= records.connections.len() {
+                return Err(PlanFault::Unknown { place: c });
+            }
+            Ok(())
+        }
+    }
 }
 
 // The place of the setting of the order of the runs `i` and `j`.
@@ -33,22 +53,15 @@ fn order_place<K: Kind>(e: &Entered<'_, K>, i: usize, j: usize) -> usize
     count_orders(&e.runs[..j]) as usize + count_on(&e.runs[..i], e.run(i).track)
 }
 
-/// What naming an order or a connection refuses. Taken, the place of the byte of its setting.
-pub fn check_switch<K: Kind>(e: &Entered<'_, K>, switch: Switch) -> Result<usize, PlanFault>
+/// The place of the byte of a switch's setting, and what naming the switch refuses.
+pub fn find_place<K: Kind>(e: &Entered<'_, K>, switch: Switch) -> Result<usize, PlanFault>
     ensures rows { PlanAnswers (switch_rows K.Kind.time (register_in K.Kind.time e.now) switch) result }
     ensures place { IfOk result (PlaceOf K.Kind.time (register_in K.Kind.time e.now) switch) }
 {
+    check_switch(&e.records(), switch)?;
     match switch {
-        Switch::Order { i, j } => {
-            check_order(e, i, j)?;
-            Ok(order_place(e, i as usize, j as usize))
-        }
-        Switch::Connection { c } => {
-            if c as usize >= e.connections.len() {
-                return Err(PlanFault::Unknown { place: c });
-            }
-            Ok(ORDERS + c as usize)
-        }
+        Switch::Order { i, j } => Ok(order_place(e, i as usize, j as usize)),
+        Switch::Connection { c } => Ok(ORDERS + c as usize),
     }
 }
 
@@ -57,7 +70,7 @@ pub fn find_setting<K: Kind>(e: &Entered<'_, K>, switch: Switch) -> Result<u8, P
     ensures rows { PlanAnswers (switch_rows K.Kind.time (register_in K.Kind.time e.now) switch) result }
     ensures setting { IfOk result (λ x. x ≡ setting_of_lem K.Kind.time (register_in K.Kind.time e.now) switch) }
 {
-    let place = check_switch(e, switch)?;
+    let place = find_place(e, switch)?;
     Ok(e.settings[place])
 }
 
@@ -70,7 +83,7 @@ pub fn check_setting<K: Kind>(
     ensures rows { PlanAnswers (setting_rows K.Kind.time (register_in K.Kind.time e.now) switch setting) result }
     ensures place { IfOk result (PlaceOf K.Kind.time (register_in K.Kind.time e.now) switch) }
 {
-    let place = check_switch(e, switch)?;
+    let place = find_place(e, switch)?;
     if setting > 1 {
         return Err(PlanFault::Range);
     }

@@ -1,5 +1,5 @@
-use Rattle.std.proofs.Common.{length}
-use Rattle.records.specs.Lent.{lists_mut}
+use Rattle.std.proofs.Common.{ap, ◌∙◌, length}
+use Rattle.records.specs.Lent.{register_lent, lists_mut}
 use Rattle.records.specs.Register.{Register, register_of}
 use Rattle.force.specs.Work.{work_lengths}
 use Rattle.rules.specs.Rows.{hold_rows}
@@ -25,6 +25,6 @@ returns g c =
     let ys = λ (R : Register g.row.K.Denot). hold_rows t R a.run a.until in
     let known = c.in_ok-e.ensures in
     record {
-      rows = told_behind ys _ _ known.sound.0.register (open_call_rows t l m a.times.now) c.check_hold.result known.rows c.check_hold.ensures;
-      ready = hold_ready t l m a.times.now known.listed known.sound.1 a.run a.until c.check_hold.result (told ys _ _ known.sound.0.register c.check_hold.result c.check_hold.ensures);
+      rows = told_behind ys _ _ (ap (register_lent t) c.records.ensures ∙ known.sound.0.register) (open_call_rows t l m a.times.now) c.check_hold.result known.rows c.check_hold.ensures;
+      ready = hold_ready t l m a.times.now known.listed known.sound.1 a.run a.until c.check_hold.result (told ys _ _ (ap (register_lent t) c.records.ensures ∙ known.sound.0.register) c.check_hold.result c.check_hold.ensures);
     }

@@ -1,5 +1,5 @@
-use Rattle.std.proofs.Common.{length}
-use Rattle.records.specs.Lent.{lists_mut}
+use Rattle.std.proofs.Common.{ap, ◌∙◌, length}
+use Rattle.records.specs.Lent.{register_lent, lists_mut}
 use Rattle.records.specs.Register.{Register, register_of}
 use Rattle.force.specs.Work.{work_lengths}
 use Rattle.rules.specs.Rows.{report_rows}
@@ -25,6 +25,6 @@ returns g c =
     let ys = λ (R : Register g.row.K.Denot). report_rows t R a.event a.at in
     let known = c.in_ok-e.ensures in
     record {
-      rows = told_behind ys _ _ known.sound.0.register (open_call_rows t l m a.times.now) c.check_report.result known.rows c.check_report.ensures;
-      ready = report_ready t l m a.times.now known.listed known.sound.1 a.event a.at c.check_report.result (told ys _ _ known.sound.0.register c.check_report.result c.check_report.ensures);
+      rows = told_behind ys _ _ (ap (register_lent t) c.records.ensures ∙ known.sound.0.register) (open_call_rows t l m a.times.now) c.check_report.result known.rows c.check_report.ensures;
+      ready = report_ready t l m a.times.now known.listed known.sound.1 a.event a.at c.check_report.result (told ys _ _ (ap (register_lent t) c.records.ensures ∙ known.sound.0.register) c.check_report.result c.check_report.ensures);
     }

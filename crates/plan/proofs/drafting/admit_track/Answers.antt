@@ -1,8 +1,11 @@
-use Rattle.records.specs.Lent.{lists_mut}
+use Rattle.std.proofs.Common.{ap, ◌∙◌}
+use Rattle.records.specs.Lent.{Lists, register_lent, lists_mut}
 use Rattle.records.specs.Register.{Register}
 use Rattle.rules.specs.Rows.{draft_rows, track_rows}
 use Rattle.plan.specs.States.{memory}
-use Rattle.plan.proofs.Told.{told_behind}
+use Rattle.records.specs.Entered.{register_in}
+use Rattle.plan.proofs.Entering.{track_room}
+use Rattle.plan.proofs.Told.{told, told_behind}
 use Rattle.plan.proofs.drafting.admit_track.Goals as goal
 
 pub returns-clause-rows : goal.returns-clause-rows
@@ -12,4 +15,10 @@ returns-clause-rows g c =
     let m = memory a.numbers (lists_mut a.records.now) in
     let ys = λ (R : Register g.row.K.Denot). track_rows t R a.track in
     let known = c.in_ok-e.ensures in
-    told_behind ys _ _ known.sound.0.register (draft_rows t m) c.check_track.result known.rows c.check_track.ensures
+    told_behind ys _ _ (ap (register_lent t) c.records.ensures ∙ known.sound.0.register) (draft_rows t m) c.check_track.result known.rows c.check_track.ensures
+
+pub returns-clause-room : goal.returns-clause-room
+returns-clause-room g c =
+    let t = g.K.Kind.time in
+    let known = c.in_ok-e.ensures.sound in
+    track_room t _ (register_in t c.in_ok-e.e) c.args.track c.args.numbers.tracks c.check_track.result known.1 known.0.tracks (told (λ (l : Lists g.row.K.Denot). track_rows t (register_lent t l) c.args.track) _ _ c.records.ensures c.check_track.result c.check_track.ensures)

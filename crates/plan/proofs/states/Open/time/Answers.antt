@@ -1,4 +1,5 @@
-use Rattle.records.specs.Lent.{lists_in}
+use Rattle.std.proofs.Common.{ap, ◌∙◌}
+use Rattle.records.specs.Lent.{register_lent, lists_in}
 use Rattle.records.specs.Register.{Register, register_of}
 use Rattle.rules.specs.Rows.{open_rows, event_rows}
 use Rattle.plan.specs.States.{memory}
@@ -18,4 +19,4 @@ returns-clause-rows g c =
     let a = c.args in
     let m = memory a.self.now.numbers (lists_in a.records) in
     let known = c.in_ok-e.ensures in
-    passed_behind (λ (R : Register g.row.K.Denot). event_rows t R a.event) _ _ known.sound.0.register (open_rows t m a.times.now) known.rows c.in_ok-check_event.ensures
+    passed_behind (λ (R : Register g.row.K.Denot). event_rows t R a.event) _ _ (ap (register_lent t) c.records.ensures ∙ known.sound.0.register) (open_rows t m a.times.now) known.rows c.in_ok-check_event.ensures
