@@ -1,5 +1,5 @@
 -- From the answer of a reckoning to that of the call.
-use Rattle.std.proofs.Common.{◌≡◌, ℕ, List, [], ◌++◌, Ok, Err, Result, refl, subst, inl, arith}
+use Rattle.std.proofs.Common.{◌≡◌, ℕ, List, [], Ok, Err, Result, refl, subst, inl, arith}
 use Rattle.kinds.specs.Time.{Time}
 use Rattle.network.specs.declared.faults.NetworkFault.{NetworkFault}
 use Rattle.network.specs.declared.faults.NetworkFault.TheVariants as network
@@ -62,23 +62,8 @@ module _ {K : Type 0} (t : Time K) where
   module _ (rows : List Row) (R : Register K) (under : Under 12 rows) (times : List K) (ring : List ℕ) where
     -- a fault before the reckoning names no ring
     quiet : (f : PlanFault) → First rows (plan_number f) (plan_place f) → RingLeft t R ring ring f
-    quiet fault.Length h = refl
-    quiet fault.Stored h = refl
-    quiet (fault.Unknown place) h = refl
-    quiet fault.Time h = refl
-    quiet fault.Duration h = refl
-    quiet fault.Count h = refl
-    quiet fault.Range h = refl
-    quiet fault.Already h = refl
-    quiet fault.Departed h = refl
-    quiet fault.Report h = refl
-    quiet fault.Slip h = refl
-    quiet (fault.Network network.Length) h = refl
-    quiet (fault.Network (network.Event place)) h = refl
-    quiet (fault.Network network.Floor) h = refl
-    quiet (fault.Network network.Duration) h = refl
-    quiet (fault.Network network.Count) h = refl
     quiet (fault.Network (network.Ring count)) h = absurd (first_under 12 rows 0 under h)
+    quiet _ h = refl
 
     -- refused before the reckoning
     pub refused : {X : Type 0} (f : PlanFault) (r : Result X PlanFault) → Left f r → First rows (plan_number f) (plan_place f) → Reckons t rows R times times ring ring r

@@ -51,23 +51,8 @@ module _ {K : Type 0} (t : Time K) where
 
   -- what a fault leaves in ring memory: the events of a ring of what was to be put in force, or all as it was
   abbrev pub RingLeft : Register K → List ℕ → List ℕ → PlanFault → Type 0
-  RingLeft R was ring fault.Length = ring ≡ was
-  RingLeft R was ring fault.Stored = ring ≡ was
-  RingLeft R was ring (fault.Unknown place) = ring ≡ was
-  RingLeft R was ring fault.Time = ring ≡ was
-  RingLeft R was ring fault.Duration = ring ≡ was
-  RingLeft R was ring fault.Count = ring ≡ was
-  RingLeft R was ring fault.Range = ring ≡ was
-  RingLeft R was ring fault.Already = ring ≡ was
-  RingLeft R was ring fault.Departed = ring ≡ was
-  RingLeft R was ring fault.Report = ring ≡ was
-  RingLeft R was ring fault.Slip = ring ≡ was
-  RingLeft R was ring (fault.Network network.Length) = ring ≡ was
-  RingLeft R was ring (fault.Network (network.Event place)) = ring ≡ was
-  RingLeft R was ring (fault.Network network.Floor) = ring ≡ was
-  RingLeft R was ring (fault.Network network.Duration) = ring ≡ was
-  RingLeft R was ring (fault.Network network.Count) = ring ≡ was
   RingLeft R was ring (fault.Network (network.Ring count)) = Names t (arcs_in_force t R) (take count ring) × (drop count ring ≡ drop count was) × (count ≤ 2 * length R.runs)
+  RingLeft R was ring _ = ring ≡ was
 
   module _ {X : Type 0} where
     -- R is what the call puts in force; the rows before the reckoning stand in front

@@ -19,25 +19,10 @@ module _ {K : Type 0} (t : Time K) (R S : Register K) (h : Same t R S) where
   runs_alike = ap length h.runs
 
   ring_left_there : (was ring : List ℕ) (f : PlanFault) → RingLeft t R was ring f → RingLeft t S was ring f
-  ring_left_there was ring fault.Length l = l
-  ring_left_there was ring fault.Stored l = l
-  ring_left_there was ring (fault.Unknown place) l = l
-  ring_left_there was ring fault.Time l = l
-  ring_left_there was ring fault.Duration l = l
-  ring_left_there was ring fault.Count l = l
-  ring_left_there was ring fault.Range l = l
-  ring_left_there was ring fault.Already l = l
-  ring_left_there was ring fault.Departed l = l
-  ring_left_there was ring fault.Report l = l
-  ring_left_there was ring fault.Slip l = l
-  ring_left_there was ring (fault.Network network.Length) l = l
-  ring_left_there was ring (fault.Network (network.Event place)) l = l
-  ring_left_there was ring (fault.Network network.Floor) l = l
-  ring_left_there was ring (fault.Network network.Duration) l = l
-  ring_left_there was ring (fault.Network network.Count) l = l
   ring_left_there was ring (fault.Network (network.Ring count)) l =
       let P : ℕ → Type 0 = λ n. count ≤ 2 * n in
       ((force_shared t R S h).names (take count ring) l.0, l.1, subst P runs_alike l.2)
+  ring_left_there was ring _ l = l
 
   module _ {X : Type 0} where
     pub times_left_there : (was times : List K) (r : Result X PlanFault) → TimesLeft t R was times r → TimesLeft t S was times r

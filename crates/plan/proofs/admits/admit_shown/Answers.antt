@@ -1,6 +1,5 @@
 use Rattle.rules.specs.Rows.{open_rows}
 use Rattle.records.specs.Register.{Memory}
-use Rattle.rules.specs.declared.faults.PlanFault.{PlanFault}
 use Rattle.plan.proofs.Told.{left_rows, passed}
 use Rattle.plan.proofs.admits.admit_shown.Goals as goal
 

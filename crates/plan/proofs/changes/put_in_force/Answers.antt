@@ -1,9 +1,9 @@
-use Rattle.std.proofs.Common.{◌≡◌, [], Ok, Err, ap}
+use Rattle.std.proofs.Common.{[], Ok, Err, ap}
 use Rattle.records.specs.Lent.{lists_in}
 use Rattle.records.specs.Register.{seen, register_of}
 use Rattle.rules.specs.declared.faults.PlanFault.TheVariants as fault
 use Rattle.plan.specs.States.{memory}
-use Rattle.plan.proofs.Reckoned.{failed, lifted, reckoned, reckons, reckons_failed}
+use Rattle.plan.proofs.Reckoned.{lifted, reckoned, reckons, reckons_failed}
 use Rattle.plan.proofs.changes.put_in_force.Goals as goal
 
 pub returns-in_err-reckon_within-clause-reckons : goal.returns-in_err-reckon_within-clause-reckons

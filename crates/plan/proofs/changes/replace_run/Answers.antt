@@ -1,11 +1,11 @@
-use Rattle.std.proofs.Common.{ℕ, ◌<◌, List, [], get_or, set, arith, rules, ap, ◌∙◌, length-set, set-set}
+use Rattle.std.proofs.Common.{List, [], get_or, set, ap, ◌∙◌, set-set}
 use lib.Seq.{set-get_or}
 use Rattle.records.specs.declared.Run.{Run}
 use Rattle.records.specs.Lent.{Lists, lists_in, lists_mut}
 use Rattle.records.specs.Register.{register_of}
 use Rattle.plan.specs.States.{memory, lists}
 use Rattle.plan.specs.Steps.{with_runs}
-use Rattle.plan.proofs.Reckoned.{taken, failed, reckons}
+use Rattle.plan.proofs.Reckoned.{taken, reckons}
 use Rattle.plan.proofs.changes.replace_run.Goals as goal
 
 pub returns-in-Ok-clause-reckons : goal.returns-in-Ok-clause-reckons

@@ -1,4 +1,4 @@
-use Rattle.std.proofs.Common.{ℕ, ◌<◌, List, [], length, set, arith, rules, ap, ◌∙◌, length-set, set-set}
+use Rattle.std.proofs.Common.{ℕ, List, [], set, ap, ◌∙◌, set-set}
 use lib.Seq.{set-get_or}
 use Rattle.records.specs.Lent.{Lists, lists_in, lists_mut}
 use Rattle.records.specs.Register.{register_of}

@@ -1,7 +1,6 @@
 use Rattle.std.proofs.Common.{length, refl, arith}
-use Rattle.network.specs.Refusals.{Passed}
 use Rattle.records.specs.Lent.{lists_in}
-use Rattle.records.specs.Register.{Memory, register_of}
+use Rattle.records.specs.Register.{register_of}
 use Rattle.force.specs.Work.{work_lengths}
 use Rattle.rules.specs.Rows.{draft_rows}
 use Rattle.plan.specs.States.{memory}

@@ -1,10 +1,10 @@
-use Rattle.std.proofs.Common.{◌≡◌, ℕ, ◌+◌, ◌-◌, ◌<◌, List, take, set, sym, refl, ap, ◌∙◌, subst, arith, rules}
+use Rattle.std.proofs.Common.{◌≡◌, ℕ, ◌+◌, ◌-◌, ◌<◌, List, take, set, sym, refl, ap, ◌∙◌, subst, arith}
 use Rattle.records.specs.declared.Run.{Run}
 use Rattle.records.specs.Records.{track_of_lem}
 use Rattle.records.specs.Places.{total, count}
 use Rattle.records.specs.Lent.{lists_mut}
-use Rattle.plan.specs.States.{memory, lists}
-use Rattle.plan.specs.Steps.{unused, cleared, orders_entered, orders_added, run_memory}
+use Rattle.plan.specs.States.{memory}
+use Rattle.plan.specs.Steps.{unused, cleared, orders_entered, orders_added}
 use Rattle.plan.specs.Drafting.{run_call_rows}
 use Rattle.plan.proofs.Told.{left_answers}
 use Rattle.plan.proofs.Entering.{on_tracks, on_tracks_more, orders_parts, long_runs}
