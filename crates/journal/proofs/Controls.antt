@@ -1,5 +1,5 @@
 -- The calls on an open plan as steps from books to books.
-use Rattle.std.proofs.Common.{◌≡◌, ℕ, ◌*◌, ◌/◌, ◌<◌, ◌≤◌, true, List, [], ◌++◌, length, get_or, set, Ok, Err, Option, sym, refl, ap, ◌∙◌, subst, inl, inr, arith, length-set}
+use Rattle.std.proofs.Common.{◌≡◌, ℕ, ◌*◌, ◌/◌, true, List, [], ◌++◌, length, set, Ok, Err, Option, sym, refl, ap, ◌∙◌, subst, inl, inr, arith, length-set}
 use Rattle.std.proofs.lemmas.Bool.{false≢true, cases_eq, cases_lt}
 use Rattle.std.proofs.lemmas.List.{length-take-le, get_or-set_same, get_or-set_other}
 use lib.Seq.{set_out}
@@ -24,7 +24,6 @@ use Rattle.rules.specs.Faults.{plan_number, plan_place}
 use Rattle.rules.specs.Rows.{RecordsListed, open_rows, Given, report_rows, turning_rows, event_rows, switch_rows, setting_of_lem}
 use Rattle.rules.proofs.Rows.{passed_front, passed_back, report_passed, setting_named, turning_set}
 use Rattle.plan.specs.declared.states.Open.{Open}
-use Rattle.plan.specs.declared.states.Slip.{Slip}
 use Rattle.plan.specs.States.{memory}
 use Rattle.plan.specs.Steps.{report_memory, switch_memory}
 use Rattle.plan.specs.Calls.{Lengths, Listed, lengths, open_call_rows, ring_rows, Reckons}

@@ -44,7 +44,7 @@ use Rattle.journal.specs.Books.{Books, with_register, taken}
 use Rattle.journal.specs.Memories.{Sizes, AllListed, SameMemories, sizes, state}
 use Rattle.journal.specs.Rows.{drafting, call_rows}
 use Rattle.journal.specs.Promise.{Stands, Told, Carries, to_force}
-use Rattle.journal.proofs.Rules.{run_under, connection_under, setting_under, switch_under}
+use Rattle.journal.proofs.Rules.{track_under, run_under, connection_under, setting_under, switch_under}
 use Rattle.journal.proofs.States.{state_of, same_state}
 use Rattle.journal.proofs.Told.{none_told}
 
@@ -199,6 +199,12 @@ module _ {K : Type 0} (t : Time K) (d : Draft) (m : Memories K) (listed : AllLis
             draft_taken (call.Track x) own refl (shared.track x) (answer.Number n) (ap answer.Number (e.0 ∙ sym z)) passed,
             draft_stands d' r' (track_memory before x) (enter_track B.register x) e.1 number (omega (arith, room.1)) st.stored.few_runs st.stored.few_connections same ((kept.steps B.register limits).track x here) ((kept.drafted B.register drafted).track x) (λ r h. h),
           )
+
+      pub track_refused : (x : Track K) (f : PlanFault) → First (track_call_rows t before x) (plan_number f) (plan_place f) → (d' ≡ d) × (r' ≡ lists_mut m.records)
+          → Told t (sizes m) B (call.Track x) (Err (fault.Plan f)) ring trial × Stands t B (state_of (stage.Draft d') r' m.times.now m.slips.now)
+      track_refused x f first e =
+          let own : Register K → List Row = λ R. track_rows t R x in
+          (draft_refused (call.Track x) own refl (shared.track x) (track_under t was x) f first, draft_kept d' r' e.0 e.1)
 
       pub run_step : (x : Run K) (n : ℕ) → Passed (run_call_rows t before x) → (n ≡ d.numbers.runs) × (memory d'.numbers r' ≡ run_memory t before x) → d'.numbers.number ≡ d.numbers.number
           → Told t (sizes m) B (call.Run x) (Ok (answer.Number n)) ring trial × Stands t (taken t B (call.Run x)) (state_of (stage.Draft d') r' m.times.now m.slips.now)

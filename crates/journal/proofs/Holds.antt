@@ -1,7 +1,7 @@
 -- Holds and releases as steps from books to books: the slip of a held run lies in its slot.
-use Rattle.std.proofs.Common.{◌≡◌, ℕ, zero, suc, ◌<◌, ◌≤◌, true, false, ◌⊎◌, List, [], ◌∷◌, ◌++◌, map, length, get_or, take, set, is_some, Some, None, Ok, Err, Option, sym, refl, ap, ◌∙◌, subst, inl, inr, arith, length-set, set-set}
+use Rattle.std.proofs.Common.{◌≡◌, ℕ, zero, suc, ◌<◌, ◌≤◌, true, false, List, [], ◌∷◌, ◌++◌, map, length, get_or, take, set, is_some, Some, None, Ok, Err, Option, sym, refl, ap, ◌∙◌, subst, inl, inr, arith, length-set, set-set}
 use Rattle.std.proofs.lemmas.Bool.{false≢true, cases_eq}
-use Rattle.std.proofs.lemmas.List.{length-take, length-take-le, get_or-set_same, get_or-set_other, map-set}
+use Rattle.std.proofs.lemmas.List.{length-take, get_or-set_same, get_or-set_other, map-set}
 use lib.Seq.{set-get_or}
 use Rattle.kinds.specs.Time.{Time, Laws}
 use Rattle.network.specs.Network.{Least}
@@ -266,13 +266,13 @@ module _ {K : Type 0} (t : Time K) (laws : Laws t) (o : Open) (m : Memories K) (
   )
 
   -- a run whose slip is kept is held already
-  pub hold_again : (r : ℕ) (until : K) → is_some (get_or m.slips.now r None) ≡ true → (f : PlanFault) → ((Over t until × (f ≡ refused.Time)) ⊎ ((Over t until → ⊥) × (f ≡ refused.Already))) → Told t (sizes m) B (call.Hold r until) (Err (fault.Plan f)) ring trial
-  hold_again r until some f is =
+  pub hold_again : (r : ℕ) (until : K) → is_some (get_or m.slips.now r None) ≡ true → (Over t until → ⊥) → Told t (sizes m) B (call.Hold r until) (Err (fault.Plan refused.Already)) ring trial
+  hold_again r until some fits =
       let s = some_of (get_or m.slips.now r None) some in
-      let z = (mine r s.0 s.1).2 in
-      let P : PlanFault → Type 0 = λ x. Told t (sizes m) B (call.Hold r until) (Err (fault.Plan x)) ring trial in
+      let inside = (mine r s.0 s.1).2 in
       let own = hold_rows t B.register r until ++ ring_rows t (hold t B.register r (Some until)) in
-      elim is [
-        | inl time ↦ subst P (sym time.1) (record { answers = fronts_first t laws o m listed B st own 4 0 (inr ((λ past. omega arith), inl (time.0, refl, refl))); carried = tt; named = tt })
-        | inr held ↦ subst P (sym held.1) (record { answers = fronts_first t laws o m listed B st own 8 0 (inr ((λ past. omega arith), inr (held.0, inl ((st.held yes_open r z).0 (full r s.0 s.1), refl, refl)))); carried = tt; named = tt })
-      ]
+      record {
+        answers = fronts_first t laws o m listed B st own 8 0 (inr ((λ past. omega arith), inr (fits, inl ((st.held yes_open r inside).0 (full r s.0 s.1), refl, refl))));
+        carried = tt;
+        named = tt;
+      }

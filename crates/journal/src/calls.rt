@@ -61,8 +61,8 @@ pub enum Plan {
 impl From<PlanFault> for CallFault {
     ghost from_gives = { λ e r. r ≡ told.Plan e };
 
-    fn from(fault: PlanFault) -> CallFault {
-        CallFault::Plan(fault)
+    fn from(refusal: PlanFault) -> CallFault {
+        CallFault::Plan(refusal)
     }
 }
 

@@ -21,6 +21,7 @@ fn open_hold<K: Kind>(
     ensures step { Step K.Kind.time (sizes memories.old) (state (stage.Open plan.now) memories.old) (Call.Hold run until) result memories.new.ring.now memories.new.trial.now (state (stage.Open plan.now) memories.new) }
     ensures same { SameMemories memories.old memories.new }
 {
+    // Lent by itself, so that what it holds stays known.
     let slips = &mut *memories.slips;
     if kept_slip(slips, run) {
         if until.size() > TIME_SIZE {

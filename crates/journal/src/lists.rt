@@ -31,6 +31,7 @@ pub fn perform_all<K: Kind>(
     ensures same { SameMemories memories.old memories.new }
 {
     for line in journal.iter_mut() {
+        // A call uses its plan up, so another stands in its place meanwhile.
         let current = mem::replace(plan, Plan::Draft(make(0)));
         let (next, reply) = perform(current, memories, line.call);
         *plan = next;

@@ -52,6 +52,7 @@ pub fn perform<K: Kind>(
     ensures same { SameMemories memories.old memories.new }
 {
     if !memories.is_listed() {
+        // Lent by itself, so that what it holds stays known.
         let slips = &mut *memories.slips;
         if misused(opened(&plan), slips, call) {
             return (plan, Err(CallFault::Misuse));

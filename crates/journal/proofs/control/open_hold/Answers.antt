@@ -1,8 +1,13 @@
 use Rattle.records.specs.Lent.{lists_mut}
-use Rattle.std.proofs.Common.{refl}
-use Rattle.journal.proofs.Holds.{hold_step, hold_refused}
+use Rattle.std.proofs.Common.{sym, refl, ◌∙◌, arith}
+use Rattle.journal.proofs.Holds.{hold_again, hold_step, hold_refused}
 use Rattle.journal.proofs.States.{stepped, passed_on}
 use Rattle.journal.proofs.control.open_hold.Goals as goal
+
+pub returns-then-kept_slip-clause-step : goal.returns-then-kept_slip-clause-step
+returns-then-kept_slip-clause-step g c =
+    let m = c.args.memories.now in
+    λ B st. (hold_again g.K.Kind.time g.met.K.Kind.laws c.args.plan.now m c.requires.listed B st m.ring.now m.trial.now c.args.run c.args.until (sym c.kept_slip.ensures ∙ c.if-kept_slip.true) (λ over. omega (arith, c.size.ensures, c.if-size-gt-TIME_SIZE.false)), st)
 
 pub returns-in_err-slip-clause-step : goal.returns-in_err-slip-clause-step
 returns-in_err-slip-clause-step g c =

@@ -1,6 +1,6 @@
 use Rattle.std.proofs.Common.{refl}
 use Rattle.records.specs.Lent.{lists_in, lists_mut}
-use Rattle.journal.proofs.Drafts.{run_same, track_step, run_step, run_refused, connection_step, connection_refused, preset_step, preset_refused, setting_step, setting_refused}
+use Rattle.journal.proofs.Drafts.{run_same, track_step, track_refused, run_step, run_refused, connection_step, connection_refused, preset_step, preset_refused, setting_step, setting_refused}
 use Rattle.journal.proofs.States.{stepped, passed_on}
 use Rattle.journal.proofs.drafting.in_draft.Goals as goal
 
@@ -11,6 +11,14 @@ returns-in_ok-track-in-Track-clause-step g c =
     let m = a.memories.now in
     let k = c.in_ok-track-in-Track in
     λ B st. stepped t B c.in-Track.is refl (track_step t a.draft.now m c.requires.listed B st m.ring.now m.trial.now c.track.new.self (lists_mut c.track.new.records) c.in-Track.track k.field-0 k.ensures.rows k.ensures.writes k.ensures.number)
+
+pub returns-in_err-track-in-Track-clause-step : goal.returns-in_err-track-in-Track-clause-step
+returns-in_err-track-in-Track-clause-step g c =
+    let t = g.K.Kind.time in
+    let a = c.args in
+    let m = a.memories.now in
+    let k = c.in_err-track-in-Track in
+    λ B st. stepped t B c.in-Track.is (passed_on _ k.field-0.0 c.from_residual.ensures) (track_refused t a.draft.now m c.requires.listed B st m.ring.now m.trial.now c.track.new.self (lists_mut c.track.new.records) c.in-Track.track k.field-0.0 k.ensures.rows k.ensures.writes)
 
 pub returns-in_ok-run-in-Run-clause-step : goal.returns-in_ok-run-in-Run-clause-step
 returns-in_ok-run-in-Run-clause-step g c =
