@@ -14,8 +14,8 @@ use Rattle.registers.proofs.Forces.{same_limits}
 use Rattle.registers.proofs.Rings.{never_ring_lem}
 use Rattle.journal.specs.declared.calls.Call.TheVariants as call
 use Rattle.journal.specs.Books.{Books}
-use Rattle.journal.specs.Rows.{AllListed}
-use Rattle.journal.specs.Promise.{State, Stands, memory_of}
+use Rattle.journal.specs.Memories.{AllListed, State}
+use Rattle.journal.specs.Promise.{Stands, memory_of}
 use Rattle.journal.specs.Theorems.{NeverForRing, ShownCostsLeast}
 
 open_of : (b : Bool) → (b ≡ false → ⊥) → b ≡ true
@@ -38,16 +38,7 @@ module _ {K : Type 0} (t : Time K) (laws : Laws t) where
   never_for_ring_lem B s st l (call.Report v x) floors count ring trial told = (free B s st (was_open B.opened (row 1 0 (AllListed l → ⊥) ∷ report_rows t B.register v x ++ ring_rows t (report t B.register v x)) _ told.answers)).reporting_names v x (take count ring) told.named
   never_for_ring_lem B s st l (call.Hold r until) floors count ring trial told = (free B s st (was_open B.opened (row 1 0 (AllListed l → ⊥) ∷ hold_rows t B.register r until ++ ring_rows t (hold t B.register r (Some until))) _ told.answers)).holding_names r _ (take count ring) told.named
   never_for_ring_lem B s st l (call.Release r) floors count ring trial told = (free B s st (was_open B.opened (row 0 0 (get_or B.slips r false ≡ false) ∷ row 1 0 (AllListed l → ⊥) ∷ ring_rows t (hold t B.register r None)) _ told.answers)).holding_names r _ (take count ring) told.named
-  never_for_ring_lem B s st l (call.Track x) floors count ring trial told = absurd floors
-  never_for_ring_lem B s st l (call.Run x) floors count ring trial told = absurd floors
-  never_for_ring_lem B s st l (call.Connection x) floors count ring trial told = absurd floors
-  never_for_ring_lem B s st l (call.Preset w setting) floors count ring trial told = absurd floors
-  never_for_ring_lem B s st l call.Open floors count ring trial told = absurd floors
-  never_for_ring_lem B s st l (call.Turn w setting) floors count ring trial told = absurd floors
-  never_for_ring_lem B s st l (call.Trial w setting) floors count ring trial told = absurd floors
-  never_for_ring_lem B s st l (call.Time v) floors count ring trial told = absurd floors
-  never_for_ring_lem B s st l (call.Setting w) floors count ring trial told = absurd floors
-  never_for_ring_lem B s st l call.Cost floors count ring trial told = absurd floors
+  never_for_ring_lem B s st l _ floors count ring trial told = absurd floors
 
   pub shown_costs_least_lem : ShownCostsLeast t
   shown_costs_least_lem B s st shown other table meets = cheapest t laws B.register (limits B s st) (at t s.times) (st.shows shown) other table meets

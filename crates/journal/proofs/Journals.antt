@@ -5,17 +5,15 @@ use Rattle.std.proofs.lemmas.Bool.{false≢true}
 use Rattle.kinds.specs.Time.{Time}
 use Rattle.journal.specs.declared.calls.Line.{Line}
 use Rattle.journal.specs.declared.calls.Call.{Call}
-use Rattle.records.specs.declared.Track.{Track}
-use Rattle.records.specs.declared.Run.{Run}
-use Rattle.records.specs.declared.Connection.{Connection}
+use Rattle.records.specs.Lent.{Lists}
 use Rattle.plan.specs.declared.states.Slip.{Slip}
 use Rattle.plan.specs.Drafting.{blank}
-use Rattle.plan.specs.Calls.{Lengths, lengths}
 use Rattle.journal.specs.declared.calls.Plan.TheVariants as stage
 use Rattle.journal.specs.Books.{Books, after, registered, new}
 use Rattle.journal.proofs.Holds.{get_or_map}
-use Rattle.journal.specs.Rows.{Sizes, sizes}
-use Rattle.journal.specs.Promise.{Told, ToldAll, State, Stands, Step, Steps, state, call_of}
+use Rattle.journal.specs.Memories.{Sizes, State}
+use Rattle.journal.specs.Promise.{Told, ToldAll, Stands, Step, Steps, call_of}
+use Rattle.journal.proofs.States.{state_of}
 
 module _ {K : Type 0} where
   pub registered_more : (t : Time K) (B : Books K) (xs : List (Line K)) (x : Line K) → registered t B (xs ++ x ∷ []) ≡ after t (registered t B xs) x.call x.reply
@@ -45,21 +43,14 @@ module _ {K : Type 0} where
       subst P (sym (take_more_set xs i x h))
       (told_more t l B (take i xs) x ring trial so_far.0 here, subst S (sym (registered_more t B (take i xs) x)) both.1)
 
-pub same_work : {a b c d e f g h i a' b' c' d' e' f' g' h' i' : ℕ} → a ≡ a' → b ≡ b' → c ≡ c' → d ≡ d' → e ≡ e' → f ≡ f' → g ≡ g' → h ≡ h' → i ≡ i' → lengths a b c d e f g h i ≡ lengths a' b' c' d' e' f' g' h' i'
-same_work p q r s t u v w x = cc
-
-pub same_sizes : {a b c d e f a' b' c' d' e' f' : ℕ} {w w' : Lengths} → a ≡ a' → b ≡ b' → c ≡ c' → d ≡ d' → e ≡ e' → f ≡ f' → w ≡ w' → sizes a b c d e f w ≡ sizes a' b' c' d' e' f' w'
-same_sizes p q r s t u v = cc
-
 none_at : (n r : ℕ) → get_or (replicate n false) r false ≡ false
 none_at zero r = refl
 none_at (suc n) zero = refl
 none_at (suc n) (suc r) = none_at n r
 
 -- a new plan stands, whatever lies in its memories, if no slip is kept
-pub new_stands : {K : Type 0} (t : Time K) (number slots : ℕ) (tracks : List (Track K)) (runs : List (Run K)) (connections : List (Connection K)) (settings : List ℕ) (times : List K) (slips : List (Option Slip))
-    → map is_some slips ≡ replicate slots false → Stands t (new number slots) (state (stage.Draft (blank number)) tracks runs connections settings times slips)
-new_stands t number slots tracks runs connections settings times slips none =
+pub new_stands : {K : Type 0} (t : Time K) (number slots : ℕ) (records : Lists K) (times : List K) (slips : List (Option Slip)) → map is_some slips ≡ replicate slots false → Stands t (new number slots) (state_of (stage.Draft (blank number)) records times slips)
+new_stands t number slots records times slips none =
     record {
       number = refl;
       opened = refl;

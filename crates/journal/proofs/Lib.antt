@@ -1,3 +1,4 @@
+pub mod States
 pub mod Told
 pub mod Reckonings
 pub mod Drafts
@@ -5,6 +6,5 @@ pub mod Rules
 pub mod Openings
 pub mod Controls
 pub mod Holds
-pub mod Questions
 pub mod Journals
 pub mod Follows

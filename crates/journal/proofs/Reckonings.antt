@@ -32,23 +32,8 @@ first_drop (x ∷ a) b c n p off (inr f) = first_drop a b c n p off.1 f.1
 
 module _ {K : Type 0} (t : Time K) where
   ring_told : (R : Register K) (was ring : List ℕ) (f : PlanFault) → RingLeft t R was ring f → RingTold t R ring (Err (fault.Plan f))
-  ring_told R was ring refused.Length h = tt
-  ring_told R was ring refused.Stored h = tt
-  ring_told R was ring (refused.Unknown place) h = tt
-  ring_told R was ring refused.Time h = tt
-  ring_told R was ring refused.Duration h = tt
-  ring_told R was ring refused.Count h = tt
-  ring_told R was ring refused.Range h = tt
-  ring_told R was ring refused.Already h = tt
-  ring_told R was ring refused.Departed h = tt
-  ring_told R was ring refused.Report h = tt
-  ring_told R was ring refused.Slip h = tt
-  ring_told R was ring (refused.Network network.Length) h = tt
-  ring_told R was ring (refused.Network (network.Event place)) h = tt
-  ring_told R was ring (refused.Network network.Floor) h = tt
-  ring_told R was ring (refused.Network network.Duration) h = tt
-  ring_told R was ring (refused.Network network.Count) h = tt
   ring_told R was ring (refused.Network (network.Ring count)) h = h.0
+  ring_told R was ring _ h = tt
 
   -- a refusal of a call's own rows, or a ring behind them
   first_split : (xs : List Row) (y : Row) (n p : ℕ) → First (xs ++ y ∷ []) n p → First xs n p ⊎ Passed xs

@@ -13,20 +13,5 @@ use Rattle.journal.specs.Promise.{RingTold}
 
 module _ {K : Type 0} (t : Time K) (R : Register K) (ring : List ℕ) (rows : List Row) (under : Under 12 rows) where
   pub none_told : (f : PlanFault) → First rows (plan_number f) (plan_place f) → RingTold t R ring (Err (fault.Plan f))
-  none_told refused.Length h = tt
-  none_told refused.Stored h = tt
-  none_told (refused.Unknown place) h = tt
-  none_told refused.Time h = tt
-  none_told refused.Duration h = tt
-  none_told refused.Count h = tt
-  none_told refused.Range h = tt
-  none_told refused.Already h = tt
-  none_told refused.Departed h = tt
-  none_told refused.Report h = tt
-  none_told refused.Slip h = tt
-  none_told (refused.Network network.Length) h = tt
-  none_told (refused.Network (network.Event place)) h = tt
-  none_told (refused.Network network.Floor) h = tt
-  none_told (refused.Network network.Duration) h = tt
-  none_told (refused.Network network.Count) h = tt
   none_told (refused.Network (network.Ring count)) h = absurd (first_under 12 rows 0 under h)
+  none_told _ h = tt

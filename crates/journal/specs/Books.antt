@@ -41,10 +41,7 @@ module _ {K : Type 0} where
     taken B (call.Turn s setting) = with_register B (set_switch B.register s setting)
     taken B (call.Hold r until) = record { number = B.number; opened = B.opened; register = hold t B.register r (Some until); slips = slice_set B.slips r true }
     taken B (call.Release r) = record { number = B.number; opened = B.opened; register = hold t B.register r None; slips = slice_set B.slips r false }
-    taken B (call.Trial s setting) = B
-    taken B (call.Time v) = B
-    taken B (call.Setting s) = B
-    taken B call.Cost = B
+    taken B _ = B
 
     -- a refused call leaves them as they are
     abbrev pub after : Books K → Call K → Reply K → Books K

@@ -1,4 +1,5 @@
 pub mod Faults
+pub mod Memories
 pub mod Books
 pub mod Rows
 pub mod Promise

@@ -1,13 +1,10 @@
 -- What a plan promises of each answer, and of every list of calls. Assumes nothing.
-use Rattle.std.specs.Prelude.{◌≡◌, ℕ, ◌<◌, Bool, true, false, List, [], ◌∷◌, map, length, take, is_some, Some, None, Ok, Err, Option, slice_index_or}
+use Rattle.std.specs.Prelude.{◌≡◌, ℕ, ◌<◌, Bool, true, false, List, [], ◌∷◌, map, length, take, is_some, Some, None, Ok, Err, slice_index_or}
 use Rattle.kinds.specs.Time.{Time}
 use Rattle.network.specs.declared.faults.NetworkFault.TheVariants as network
 use Rattle.network.specs.Network.{Least, Names}
 use Rattle.network.specs.Reckoning.{at}
 use Rattle.network.specs.Refusals.{Answers}
-use Rattle.records.specs.declared.Track.{Track}
-use Rattle.records.specs.declared.Run.{Run}
-use Rattle.records.specs.declared.Connection.{Connection}
 use Rattle.records.specs.Records.{run_at}
 use Rattle.records.specs.Register.{Register, Memory, register_of}
 use Rattle.records.specs.Stored.{Stored, Drafted}
@@ -16,7 +13,8 @@ use Rattle.cost.specs.Cost.{delay_cost_lem}
 use Rattle.rules.specs.declared.faults.PlanFault.TheVariants as refused
 use Rattle.rules.specs.Rows.{Given, setting_of_lem}
 use Rattle.plan.specs.declared.states.Slip.{Slip}
-use Rattle.plan.specs.States.{draft_memory, open_memory}
+use Rattle.plan.specs.declared.states.Numbers.{Numbers}
+use Rattle.plan.specs.States.{memory}
 use Rattle.registers.specs.Steps.{Same, set_switch}
 use Rattle.journal.specs.declared.calls.Call.{Call}
 use Rattle.journal.specs.declared.calls.Call.TheVariants as call
@@ -28,36 +26,20 @@ use Rattle.journal.specs.declared.calls.Plan.{Plan}
 use Rattle.journal.specs.declared.calls.Plan.TheVariants as plan
 use Rattle.journal.specs.Faults.{call_number, call_place}
 use Rattle.journal.specs.Books.{Books, Reply, taken, after, registered}
-use Rattle.journal.specs.Rows.{Sizes, call_rows}
+use Rattle.journal.specs.Memories.{Sizes, State}
+use Rattle.journal.specs.Rows.{call_rows}
 
--- A plan with its memories, but for working memory.
-pub record State (K : Type 0) : Type 0 where
-  pub plan : Plan
-  pub tracks : List (Track K)
-  pub runs : List (Run K)
-  pub connections : List (Connection K)
-  pub settings : List ℕ
-  pub times : List K
-  pub slips : List (Option Slip)
-
-abbrev pub number_in : Plan → ℕ
-number_in (plan.Draft d) = d.number
-number_in (plan.Open o) = o.number
+abbrev pub numbers_in : Plan → Numbers
+numbers_in (plan.Draft d) = d.numbers
+numbers_in (plan.Open o) = o.numbers
 
 abbrev pub opened_in : Plan → Bool
 opened_in (plan.Draft d) = false
 opened_in (plan.Open o) = true
 
 module _ {K : Type 0} where
-  abbrev pub state : Plan → List (Track K) → List (Run K) → List (Connection K) → List ℕ → List K → List (Option Slip) → State K
-  state p tracks runs connections settings times slips = record { plan = p; tracks = tracks; runs = runs; connections = connections; settings = settings; times = times; slips = slips }
-
-  abbrev pub memory_in : Plan → List (Track K) → List (Run K) → List (Connection K) → List ℕ → Memory K
-  memory_in (plan.Draft d) tracks runs connections settings = draft_memory d tracks runs connections settings
-  memory_in (plan.Open o) tracks runs connections settings = open_memory o tracks runs connections settings
-
   abbrev pub memory_of : State K → Memory K
-  memory_of s = memory_in s.plan s.tracks s.runs s.connections s.settings
+  memory_of s = memory (numbers_in s.plan) s.records
 
   module _ (t : Time K) where
     -- What a taken call answers. A trial's times stand in trial memory.
@@ -65,16 +47,11 @@ module _ {K : Type 0} where
     Carries B (call.Track x) a trial = a ≡ answer.Number (length B.register.tracks)
     Carries B (call.Run x) a trial = a ≡ answer.Number (length B.register.runs)
     Carries B (call.Connection x) a trial = a ≡ answer.Number (length B.register.connections)
-    Carries B (call.Preset s setting) a trial = a ≡ answer.Done
-    Carries B call.Open a trial = a ≡ answer.Done
-    Carries B (call.Report v x) a trial = a ≡ answer.Done
-    Carries B (call.Turn s setting) a trial = a ≡ answer.Done
-    Carries B (call.Hold r until) a trial = a ≡ answer.Done
-    Carries B (call.Release r) a trial = a ≡ answer.Done
     Carries B (call.Trial s setting) a trial = Least t (in_force t (set_switch B.register s setting)) (at t trial) × (a ≡ answer.Cost (delay_cost_lem t (set_switch B.register s setting) (at t trial)))
     Carries B (call.Time v) a trial = (time : ℕ → K) × Least t (in_force t B.register) time × (a ≡ answer.Time (time v))
     Carries B (call.Setting s) a trial = a ≡ answer.Setting (setting_of_lem t B.register s)
     Carries B call.Cost a trial = (time : ℕ → K) × Least t (in_force t B.register) time × (a ≡ answer.Cost (delay_cost_lem t B.register time))
+    Carries B _ a trial = a ≡ answer.Done
 
     abbrev pub Carried : Books K → Call K → Reply K → List K → Type 0
     Carried B c (Ok a) trial = Carries B c a trial
@@ -82,41 +59,13 @@ module _ {K : Type 0} where
 
     -- the register that a call puts in force, a trial with its setting changed
     abbrev pub to_force : Books K → Call K → Register K
-    to_force B (call.Track x) = (taken t B (call.Track x)).register
-    to_force B (call.Run x) = (taken t B (call.Run x)).register
-    to_force B (call.Connection x) = (taken t B (call.Connection x)).register
-    to_force B (call.Preset s setting) = (taken t B (call.Preset s setting)).register
-    to_force B call.Open = B.register
-    to_force B (call.Report v x) = (taken t B (call.Report v x)).register
-    to_force B (call.Turn s setting) = (taken t B (call.Turn s setting)).register
-    to_force B (call.Hold r until) = (taken t B (call.Hold r until)).register
-    to_force B (call.Release r) = (taken t B (call.Release r)).register
     to_force B (call.Trial s setting) = set_switch B.register s setting
-    to_force B (call.Time v) = B.register
-    to_force B (call.Setting s) = B.register
-    to_force B call.Cost = B.register
+    to_force B c = (taken t B c).register
 
     -- a ring that is told is one of what the call was to put in force
     abbrev pub RingTold : Register K → List ℕ → Reply K → Type 0
-    RingTold R ring (Ok a) = Unit {0}
-    RingTold R ring (Err fault.Misuse) = Unit {0}
     RingTold R ring (Err (fault.Plan (refused.Network (network.Ring count)))) = Names t (arcs_in_force t R) (take count ring)
-    RingTold R ring (Err (fault.Plan (refused.Network network.Length))) = Unit {0}
-    RingTold R ring (Err (fault.Plan (refused.Network (network.Event place)))) = Unit {0}
-    RingTold R ring (Err (fault.Plan (refused.Network network.Floor))) = Unit {0}
-    RingTold R ring (Err (fault.Plan (refused.Network network.Duration))) = Unit {0}
-    RingTold R ring (Err (fault.Plan (refused.Network network.Count))) = Unit {0}
-    RingTold R ring (Err (fault.Plan refused.Length)) = Unit {0}
-    RingTold R ring (Err (fault.Plan refused.Stored)) = Unit {0}
-    RingTold R ring (Err (fault.Plan (refused.Unknown place))) = Unit {0}
-    RingTold R ring (Err (fault.Plan refused.Time)) = Unit {0}
-    RingTold R ring (Err (fault.Plan refused.Duration)) = Unit {0}
-    RingTold R ring (Err (fault.Plan refused.Count)) = Unit {0}
-    RingTold R ring (Err (fault.Plan refused.Range)) = Unit {0}
-    RingTold R ring (Err (fault.Plan refused.Already)) = Unit {0}
-    RingTold R ring (Err (fault.Plan refused.Departed)) = Unit {0}
-    RingTold R ring (Err (fault.Plan refused.Report)) = Unit {0}
-    RingTold R ring (Err (fault.Plan refused.Slip)) = Unit {0}
+    RingTold R ring _ = Unit {0}
 
     -- a reply tells the truth of the books
     pub record Told (l : Sizes) (B : Books K) (c : Call K) (r : Reply K) (ring : List ℕ) (trial : List K) : Type 0 where
@@ -127,7 +76,7 @@ module _ {K : Type 0} where
     -- The memories keep the books; an open plan shows the least times of what is in force; and a slip is kept just for each run that is
     -- held.
     pub record Stands (B : Books K) (s : State K) : Type 0 where
-      pub number : number_in s.plan ≡ B.number
+      pub number : (numbers_in s.plan).number ≡ B.number
       pub opened : opened_in s.plan ≡ B.opened
       pub stored : Stored t (memory_of s)
       pub same : Same t (register_of t (memory_of s)) B.register

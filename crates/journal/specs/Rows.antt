@@ -1,36 +1,15 @@
 -- The refusals of a call of a list, over the books alone: 0 where the plan's state does not have the call, 1 where a memory has
 -- another length than listed, and then the call's own rows. Assumes nothing.
-use Rattle.std.specs.Prelude.{◌≡◌, ℕ, true, false, List, [], ◌∷◌, ◌++◌, Some, None, slice_index_or}
+use Rattle.std.specs.Prelude.{◌≡◌, true, false, List, [], ◌∷◌, ◌++◌, Some, None, slice_index_or}
 use Rattle.kinds.specs.Time.{Time}
 use Rattle.network.specs.Refusals.{Row, row}
 use Rattle.rules.specs.Rows.{track_rows, run_rows, connection_rows, switch_rows, setting_rows, turning_rows, event_rows, report_rows, hold_rows}
-use Rattle.plan.specs.Calls.{Lengths, Listed, ring_rows}
+use Rattle.plan.specs.Calls.{ring_rows}
 use Rattle.registers.specs.Steps.{set_switch, report, hold}
 use Rattle.journal.specs.declared.calls.Call.{Call}
 use Rattle.journal.specs.declared.calls.Call.TheVariants as call
 use Rattle.journal.specs.Books.{Books}
-
--- How long the memories are: records and settings, times, ring and working memory, trial times, and slips.
-pub record Sizes : Type 0 where
-  pub tracks : ℕ
-  pub runs : ℕ
-  pub connections : ℕ
-  pub settings : ℕ
-  pub trial : ℕ
-  pub slips : ℕ
-  pub work : Lengths
-
-abbrev pub sizes : ℕ → ℕ → ℕ → ℕ → ℕ → ℕ → Lengths → Sizes
-sizes tr r c s t k w = record { tracks = tr; runs = r; connections = c; settings = s; trial = t; slips = k; work = w }
-
-pub record AllListed (l : Sizes) : Type 0 where
-  pub tracks : l.tracks ≡ 64
-  pub runs : l.runs ≡ 512
-  pub connections : l.connections ≡ 512
-  pub settings : l.settings ≡ 4608
-  pub trial : l.trial ≡ 1024
-  pub slips : l.slips ≡ 512
-  pub work : Listed l.work
+use Rattle.journal.specs.Memories.{Sizes, AllListed}
 
 module _ {K : Type 0} (t : Time K) (l : Sizes) (B : Books K) where
   -- a call on a draft, and one on an open plan

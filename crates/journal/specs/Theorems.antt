@@ -11,25 +11,16 @@ use Rattle.journal.specs.declared.calls.Call.{Call}
 use Rattle.journal.specs.declared.calls.Call.TheVariants as call
 use Rattle.journal.specs.declared.calls.CallFault.TheVariants as fault
 use Rattle.journal.specs.Books.{Books}
-use Rattle.journal.specs.Rows.{Sizes}
-use Rattle.journal.specs.Promise.{State, Stands, Told}
+use Rattle.journal.specs.Memories.{Sizes, State}
+use Rattle.journal.specs.Promise.{Stands, Told}
 
 module _ {K : Type 0} where
   -- the calls that change reports and holds alone
   abbrev pub Floors : Call K → Type 0
-  Floors (call.Track x) = ⊥
-  Floors (call.Run x) = ⊥
-  Floors (call.Connection x) = ⊥
-  Floors (call.Preset s setting) = ⊥
-  Floors call.Open = ⊥
   Floors (call.Report v x) = Unit {0}
-  Floors (call.Turn s setting) = ⊥
   Floors (call.Hold r until) = Unit {0}
   Floors (call.Release r) = Unit {0}
-  Floors (call.Trial s setting) = ⊥
-  Floors (call.Time v) = ⊥
-  Floors (call.Setting s) = ⊥
-  Floors call.Cost = ⊥
+  Floors _ = ⊥
 
   module _ (t : Time K) where
     -- no true reply refuses a report, a hold or a release for a ring

@@ -1,6 +1,7 @@
 //! Calls as a list of them names them, and what they are answered.
 ghost use Rattle.std.specs.Prelude.{◌≡◌};
 ghost use Rattle.journal.specs.Faults.{call_number, call_place};
+ghost use Rattle.journal.specs.declared.calls.CallFault.TheVariants as told;
 
 use plan::{Draft, Open};
 use records::{Connection, Run, Track};
@@ -25,7 +26,7 @@ pub enum Call<K> {
 }
 
 /// What a taken call answers.
-#[derive(Clone, Copy)]
+#[derive(Clone, Copy, Debug, PartialEq, Eq)]
 pub enum Answer<K> {
     Done,
     Number(u16),
@@ -55,6 +56,14 @@ pub struct Line<K> {
 pub enum Plan {
     Draft(Draft),
     Open(Open),
+}
+
+impl From<PlanFault> for CallFault {
+    ghost from_gives = { λ e r. r ≡ told.Plan e };
+
+    fn from(refusal: PlanFault) -> CallFault {
+        CallFault::Plan(refusal)
+    }
 }
 
 impl CallFault {

@@ -1,371 +1,153 @@
 //! The calls of a list on an open plan.
-ghost use Rattle.std.specs.Prelude.{◌≡◌, ℕ, List, length, Option};
-ghost use Rattle.plan.specs.declared.states.Slip.{Slip as Token};
-ghost use Rattle.rules.specs.Rows.{RecordsListed};
-ghost use Rattle.plan.specs.States.{open_memory};
-ghost use Rattle.plan.specs.Calls.{Listed, lengths};
-ghost use Rattle.rules.specs.declared.switches.Switch.TheVariants as way;
-ghost use Rattle.journal.specs.declared.calls.Call.TheVariants as named;
+ghost use Rattle.std.specs.Prelude.{◌≡◌};
 ghost use Rattle.journal.specs.declared.calls.Plan.TheVariants as stage;
-ghost use Rattle.journal.specs.Rows.{Sizes, AllListed};
-ghost use Rattle.journal.specs.Promise.{state, Step};
+ghost use Rattle.journal.specs.Memories.{AllListed, SameMemories, sizes, state};
+ghost use Rattle.journal.specs.Promise.{Step};
 
 use crate::slips::{kept_slip, pick_slip, put_slip};
-use crate::{Answer, CallFault};
+use crate::{Answer, Call, CallFault, Memories};
 use kinds::Kind;
-use network::Arc;
-use plan::{Open, Slip, Unreleased};
-use records::{Connection, Run, Track};
+use plan::{Open, Unreleased};
 use rules::{PlanFault, Switch, TIME_SIZE};
 
-/// Reports an event.
-pub(crate) fn open_report<K: Kind>(
+// Holds a run; its slip goes into its slot.
+fn open_hold<K: Kind>(
     plan: &Open,
-    tracks: &[Track<K>],
-    runs: &mut [Run<K>],
-    connections: &[Connection<K>],
-    settings: &[u8],
-    times: &mut [K],
-    ring: &mut [u16],
-    counts: &mut [u16],
-    sums: &mut [u32],
-    befores: &mut [u16],
-    floors: &mut [K],
-    arcs: &mut [Arc<K>],
-    tables: &mut [K],
-    marks: &mut [u16],
-    event: u16,
-    at: K,
-) -> Result<Answer<K>, CallFault>
-    requires records { RecordsListed (open_memory plan.now tracks.now runs.old connections.now settings.now) }
-    requires listed { Listed (lengths (length times.old) (length ring.old) (length counts.old) (length sums.old) (length befores.old) (length floors.old) (length arcs.old) (length tables.old) (length marks.old)) }
-    ensures { (l : Sizes) (slips : List (Option Token)) (trial : List K) → AllListed l → Step K.Kind.time l (state (stage.Open plan.now) tracks.now runs.old connections.now settings.now times.old slips) (named.Report event at) result ring.new trial (state (stage.Open plan.now) tracks.now runs.new connections.now settings.now times.new slips) }
-{
-    match plan.report(
-        tracks,
-        runs,
-        connections,
-        settings,
-        times,
-        ring,
-        counts,
-        sums,
-        befores,
-        floors,
-        arcs,
-        tables,
-        marks,
-        event,
-        at,
-    ) {
-        Ok(()) => Ok(Answer::Done),
-        Err(fault) => Err(CallFault::Plan(fault)),
-    }
-}
-
-/// Turns an order.
-pub(crate) fn open_order<K: Kind>(
-    plan: &Open,
-    tracks: &[Track<K>],
-    runs: &[Run<K>],
-    connections: &[Connection<K>],
-    settings: &mut [u8],
-    times: &mut [K],
-    ring: &mut [u16],
-    counts: &mut [u16],
-    sums: &mut [u32],
-    befores: &mut [u16],
-    floors: &mut [K],
-    arcs: &mut [Arc<K>],
-    tables: &mut [K],
-    marks: &mut [u16],
-    i: u16,
-    j: u16,
-    setting: u8,
-) -> Result<Answer<K>, CallFault>
-    requires records { RecordsListed (open_memory plan.now tracks.now runs.now connections.now settings.old) }
-    requires listed { Listed (lengths (length times.old) (length ring.old) (length counts.old) (length sums.old) (length befores.old) (length floors.old) (length arcs.old) (length tables.old) (length marks.old)) }
-    ensures { (l : Sizes) (slips : List (Option Token)) (trial : List K) → AllListed l → Step K.Kind.time l (state (stage.Open plan.now) tracks.now runs.now connections.now settings.old times.old slips) (named.Turn (way.Order i j) setting) result ring.new trial (state (stage.Open plan.now) tracks.now runs.now connections.now settings.new times.new slips) }
-{
-    match plan.order(
-        tracks,
-        runs,
-        connections,
-        settings,
-        times,
-        ring,
-        counts,
-        sums,
-        befores,
-        floors,
-        arcs,
-        tables,
-        marks,
-        i,
-        j,
-        setting,
-    ) {
-        Ok(()) => Ok(Answer::Done),
-        Err(fault) => Err(CallFault::Plan(fault)),
-    }
-}
-
-/// Keeps or breaks a connection.
-pub(crate) fn open_connect<K: Kind>(
-    plan: &Open,
-    tracks: &[Track<K>],
-    runs: &[Run<K>],
-    connections: &[Connection<K>],
-    settings: &mut [u8],
-    times: &mut [K],
-    ring: &mut [u16],
-    counts: &mut [u16],
-    sums: &mut [u32],
-    befores: &mut [u16],
-    floors: &mut [K],
-    arcs: &mut [Arc<K>],
-    tables: &mut [K],
-    marks: &mut [u16],
-    c: u16,
-    setting: u8,
-) -> Result<Answer<K>, CallFault>
-    requires records { RecordsListed (open_memory plan.now tracks.now runs.now connections.now settings.old) }
-    requires listed { Listed (lengths (length times.old) (length ring.old) (length counts.old) (length sums.old) (length befores.old) (length floors.old) (length arcs.old) (length tables.old) (length marks.old)) }
-    ensures { (l : Sizes) (slips : List (Option Token)) (trial : List K) → AllListed l → Step K.Kind.time l (state (stage.Open plan.now) tracks.now runs.now connections.now settings.old times.old slips) (named.Turn (way.Connection c) setting) result ring.new trial (state (stage.Open plan.now) tracks.now runs.now connections.now settings.new times.new slips) }
-{
-    match plan.connect(
-        tracks,
-        runs,
-        connections,
-        settings,
-        times,
-        ring,
-        counts,
-        sums,
-        befores,
-        floors,
-        arcs,
-        tables,
-        marks,
-        c,
-        setting,
-    ) {
-        Ok(()) => Ok(Answer::Done),
-        Err(fault) => Err(CallFault::Plan(fault)),
-    }
-}
-
-/// Tries a setting out.
-pub(crate) fn open_trial<K: Kind>(
-    plan: &Open,
-    tracks: &[Track<K>],
-    runs: &[Run<K>],
-    connections: &[Connection<K>],
-    settings: &mut [u8],
-    times: &[K],
-    trial: &mut [K],
-    ring: &mut [u16],
-    counts: &mut [u16],
-    sums: &mut [u32],
-    befores: &mut [u16],
-    floors: &mut [K],
-    arcs: &mut [Arc<K>],
-    tables: &mut [K],
-    marks: &mut [u16],
-    switch: Switch,
-    setting: u8,
-) -> Result<Answer<K>, CallFault>
-    requires shown { length times.now ≡ 1024 }
-    requires records { RecordsListed (open_memory plan.now tracks.now runs.now connections.now settings.old) }
-    requires listed { Listed (lengths (length trial.old) (length ring.old) (length counts.old) (length sums.old) (length befores.old) (length floors.old) (length arcs.old) (length tables.old) (length marks.old)) }
-    ensures { (l : Sizes) (slips : List (Option Token)) → AllListed l → Step K.Kind.time l (state (stage.Open plan.now) tracks.now runs.now connections.now settings.old times.now slips) (named.Trial switch setting) result ring.new trial.new (state (stage.Open plan.now) tracks.now runs.now connections.now settings.new times.now slips) }
-{
-    match plan.trial(
-        tracks,
-        runs,
-        connections,
-        settings,
-        times,
-        trial,
-        ring,
-        counts,
-        sums,
-        befores,
-        floors,
-        arcs,
-        tables,
-        marks,
-        switch,
-        setting,
-    ) {
-        Ok(cost) => Ok(Answer::Cost(cost)),
-        Err(fault) => Err(CallFault::Plan(fault)),
-    }
-}
-
-/// Holds a run; its slip goes into its slot.
-pub(crate) fn open_hold<K: Kind>(
-    plan: &Open,
-    tracks: &[Track<K>],
-    runs: &mut [Run<K>],
-    connections: &[Connection<K>],
-    settings: &[u8],
-    times: &mut [K],
-    ring: &mut [u16],
-    counts: &mut [u16],
-    sums: &mut [u32],
-    befores: &mut [u16],
-    floors: &mut [K],
-    arcs: &mut [Arc<K>],
-    tables: &mut [K],
-    marks: &mut [u16],
-    slips: &mut [Option<Slip>],
+    memories: &mut Memories<'_, K>,
     run: u16,
     until: K,
 ) -> Result<Answer<K>, CallFault>
-    requires slots { length slips.old ≡ 512 }
-    requires records { RecordsListed (open_memory plan.now tracks.now runs.old connections.now settings.now) }
-    requires listed { Listed (lengths (length times.old) (length ring.old) (length counts.old) (length sums.old) (length befores.old) (length floors.old) (length arcs.old) (length tables.old) (length marks.old)) }
-    ensures { (l : Sizes) (trial : List K) → AllListed l → Step K.Kind.time l (state (stage.Open plan.now) tracks.now runs.old connections.now settings.now times.old slips.old) (named.Hold run until) result ring.new trial (state (stage.Open plan.now) tracks.now runs.new connections.now settings.now times.new slips.new) }
+    requires listed { AllListed (sizes memories.old) }
+    ensures step { Step K.Kind.time (sizes memories.old) (state (stage.Open plan.now) memories.old) (Call.Hold run until) result memories.new.ring.now memories.new.trial.now (state (stage.Open plan.now) memories.new) }
+    ensures same { SameMemories memories.old memories.new }
 {
+    // Lent by itself, so that what it holds stays known.
+    let slips = &mut *memories.slips;
     if kept_slip(slips, run) {
         if until.size() > TIME_SIZE {
             return Err(CallFault::Plan(PlanFault::Time));
         }
         return Err(CallFault::Plan(PlanFault::Already));
     }
-    match plan.hold(
-        tracks,
-        runs,
-        connections,
-        settings,
-        times,
-        ring,
-        counts,
-        sums,
-        befores,
-        floors,
-        arcs,
-        tables,
-        marks,
+    let slip = plan.hold(
+        &mut memories.records,
+        memories.times,
+        memories.ring,
+        &mut memories.work,
         run,
         until,
-    ) {
-        Ok(slip) => {
-            put_slip(slips, run, slip);
-            Ok(Answer::Done)
-        }
-        Err(fault) => Err(CallFault::Plan(fault)),
-    }
+    )?;
+    put_slip(slips, run, slip);
+    Ok(Answer::Done)
 }
 
-/// Releases a run by the slip in its slot; refused, the slip is put back.
-pub(crate) fn open_release<K: Kind>(
+// Releases a run by the slip in its slot; refused, the slip is put back.
+fn open_release<K: Kind>(
     plan: &Open,
-    tracks: &[Track<K>],
-    runs: &mut [Run<K>],
-    connections: &[Connection<K>],
-    settings: &[u8],
-    times: &mut [K],
-    ring: &mut [u16],
-    counts: &mut [u16],
-    sums: &mut [u32],
-    befores: &mut [u16],
-    floors: &mut [K],
-    arcs: &mut [Arc<K>],
-    tables: &mut [K],
-    marks: &mut [u16],
-    slips: &mut [Option<Slip>],
+    memories: &mut Memories<'_, K>,
     run: u16,
 ) -> Result<Answer<K>, CallFault>
-    requires slots { length slips.old ≡ 512 }
-    requires records { RecordsListed (open_memory plan.now tracks.now runs.old connections.now settings.now) }
-    requires listed { Listed (lengths (length times.old) (length ring.old) (length counts.old) (length sums.old) (length befores.old) (length floors.old) (length arcs.old) (length tables.old) (length marks.old)) }
-    ensures { (l : Sizes) (trial : List K) → AllListed l → Step K.Kind.time l (state (stage.Open plan.now) tracks.now runs.old connections.now settings.now times.old slips.old) (named.Release run) result ring.new trial (state (stage.Open plan.now) tracks.now runs.new connections.now settings.now times.new slips.new) }
+    requires listed { AllListed (sizes memories.old) }
+    ensures step { Step K.Kind.time (sizes memories.old) (state (stage.Open plan.now) memories.old) (Call.Release run) result memories.new.ring.now memories.new.trial.now (state (stage.Open plan.now) memories.new) }
+    ensures same { SameMemories memories.old memories.new }
 {
-    match pick_slip(slips, run) {
-        None => Err(CallFault::Misuse),
-        Some(slip) => match plan.release(
-            tracks,
-            runs,
-            connections,
-            settings,
-            times,
-            ring,
-            counts,
-            sums,
-            befores,
-            floors,
-            arcs,
-            tables,
-            marks,
-            slip,
-        ) {
-            Ok(()) => Ok(Answer::Done),
-            Err(unreleased) => {
-                let Unreleased { slip, fault } = unreleased;
-                put_slip(slips, run, slip);
-                Err(CallFault::Plan(fault))
+    let slips = &mut *memories.slips;
+    let Some(slip) = pick_slip(slips, run) else {
+        return Err(CallFault::Misuse);
+    };
+    match plan.release(
+        &mut memories.records,
+        memories.times,
+        memories.ring,
+        &mut memories.work,
+        slip,
+    ) {
+        Ok(()) => Ok(Answer::Done),
+        Err(Unreleased { slip, fault }) => {
+            put_slip(slips, run, slip);
+            Err(CallFault::Plan(fault))
+        }
+    }
+}
+
+/// A call on an open plan, where every memory has its length.
+pub(crate) fn in_open<K: Kind>(
+    plan: &Open,
+    memories: &mut Memories<'_, K>,
+    call: Call<K>,
+) -> Result<Answer<K>, CallFault>
+    requires listed { AllListed (sizes memories.old) }
+    ensures step { Step K.Kind.time (sizes memories.old) (state (stage.Open plan.now) memories.old) call result memories.new.ring.now memories.new.trial.now (state (stage.Open plan.now) memories.new) }
+    ensures same { SameMemories memories.old memories.new }
+{
+    match call {
+        Call::Report { event, at } => {
+            plan.report(
+                &mut memories.records,
+                memories.times,
+                memories.ring,
+                &mut memories.work,
+                event,
+                at,
+            )?;
+            Ok(Answer::Done)
+        }
+        Call::Turn { switch, setting } => match switch {
+            Switch::Order { i, j } => {
+                plan.order(
+                    &mut memories.records,
+                    memories.times,
+                    memories.ring,
+                    &mut memories.work,
+                    i,
+                    j,
+                    setting,
+                )?;
+                Ok(Answer::Done)
+            }
+            Switch::Connection { c } => {
+                plan.connect(
+                    &mut memories.records,
+                    memories.times,
+                    memories.ring,
+                    &mut memories.work,
+                    c,
+                    setting,
+                )?;
+                Ok(Answer::Done)
             }
         },
-    }
-}
-
-/// The time shown of an event.
-pub(crate) fn open_time<K: Kind>(
-    plan: &Open,
-    tracks: &[Track<K>],
-    runs: &[Run<K>],
-    connections: &[Connection<K>],
-    settings: &[u8],
-    times: &[K],
-    event: u16,
-) -> Result<Answer<K>, CallFault>
-    requires records { RecordsListed (open_memory plan.now tracks.now runs.now connections.now settings.now) }
-    requires shown { length times.now ≡ 1024 }
-    ensures { (l : Sizes) (slips : List (Option Token)) (ring : List ℕ) (trial : List K) → AllListed l → Step K.Kind.time l (state (stage.Open plan.now) tracks.now runs.now connections.now settings.now times.now slips) (named.Time event) result ring trial (state (stage.Open plan.now) tracks.now runs.now connections.now settings.now times.now slips) }
-{
-    match plan.time(tracks, runs, connections, settings, times, event) {
-        Ok(time) => Ok(Answer::Time(time)),
-        Err(fault) => Err(CallFault::Plan(fault)),
-    }
-}
-
-/// The cost of the times shown.
-pub(crate) fn open_cost<K: Kind>(
-    plan: &Open,
-    tracks: &[Track<K>],
-    runs: &[Run<K>],
-    connections: &[Connection<K>],
-    settings: &[u8],
-    times: &[K],
-) -> Result<Answer<K>, CallFault>
-    requires records { RecordsListed (open_memory plan.now tracks.now runs.now connections.now settings.now) }
-    requires shown { length times.now ≡ 1024 }
-    ensures { (l : Sizes) (slips : List (Option Token)) (ring : List ℕ) (trial : List K) → AllListed l → Step K.Kind.time l (state (stage.Open plan.now) tracks.now runs.now connections.now settings.now times.now slips) named.Cost result ring trial (state (stage.Open plan.now) tracks.now runs.now connections.now settings.now times.now slips) }
-{
-    match plan.cost(tracks, runs, connections, settings, times) {
-        Ok(cost) => Ok(Answer::Cost(cost)),
-        Err(fault) => Err(CallFault::Plan(fault)),
-    }
-}
-
-/// The setting of an order or a connection in an open plan.
-pub(crate) fn open_setting<K: Kind>(
-    plan: &Open,
-    tracks: &[Track<K>],
-    runs: &[Run<K>],
-    connections: &[Connection<K>],
-    settings: &[u8],
-    times: &[K],
-    switch: Switch,
-) -> Result<Answer<K>, CallFault>
-    requires records { RecordsListed (open_memory plan.now tracks.now runs.now connections.now settings.now) }
-    requires shown { length times.now ≡ 1024 }
-    ensures { (l : Sizes) (slips : List (Option Token)) (ring : List ℕ) (trial : List K) → AllListed l → Step K.Kind.time l (state (stage.Open plan.now) tracks.now runs.now connections.now settings.now times.now slips) (named.Setting switch) result ring trial (state (stage.Open plan.now) tracks.now runs.now connections.now settings.now times.now slips) }
-{
-    match plan.setting(tracks, runs, connections, settings, times, switch) {
-        Ok(setting) => Ok(Answer::Setting(setting)),
-        Err(fault) => Err(CallFault::Plan(fault)),
+        Call::Hold { run, until } => open_hold(plan, memories, run, until),
+        Call::Release { run } => open_release(plan, memories, run),
+        Call::Trial { switch, setting } => {
+            let times = &mut *memories.times;
+            let cost = plan.trial(
+                &mut memories.records,
+                times,
+                memories.trial,
+                memories.ring,
+                &mut memories.work,
+                switch,
+                setting,
+            )?;
+            Ok(Answer::Cost(cost))
+        }
+        Call::Time { event } => {
+            let times = &mut *memories.times;
+            Ok(Answer::Time(plan.time(memories.records.lent(), times, event)?))
+        }
+        Call::Setting { switch } => {
+            let times = &mut *memories.times;
+            Ok(Answer::Setting(plan.setting(memories.records.lent(), times, switch)?))
+        }
+        Call::Cost => {
+            let times = &mut *memories.times;
+            Ok(Answer::Cost(plan.cost(memories.records.lent(), times)?))
+        }
+        Call::Track { .. }
+        | Call::Run { .. }
+        | Call::Connection { .. }
+        | Call::Preset { .. }
+        | Call::Open => Err(CallFault::Misuse),
     }
 }

@@ -1,18 +1,15 @@
 //! Whole lists of calls.
-ghost use Rattle.std.specs.Prelude.{◌≡◌, ℕ, false, map, length, replicate, is_some};
-ghost use Rattle.plan.specs.Calls.{lengths};
+ghost use Rattle.std.specs.Prelude.{◌≡◌, ℕ, false, map, replicate, is_some};
 ghost use Rattle.plan.specs.Drafting.{blank};
 ghost use Rattle.journal.specs.declared.calls.Plan.TheVariants as stage;
 ghost use Rattle.journal.specs.Books.{new, registered};
-ghost use Rattle.journal.specs.Rows.{sizes};
-ghost use Rattle.journal.specs.Promise.{state, Stands, Steps, ToldAll, call_of};
+ghost use Rattle.journal.specs.Memories.{SameMemories, sizes, state};
+ghost use Rattle.journal.specs.Promise.{Stands, Steps, ToldAll, call_of};
 
 use crate::performing::perform;
-use crate::{Line, Plan};
+use crate::{Line, Memories, Plan};
 use kinds::Kind;
-use network::Arc;
-use plan::{Slip, make};
-use records::{Connection, Run, Track};
+use plan::make;
 use std::mem;
 
 /// A new plan, whose number tells its slips from those of other plans.
@@ -25,50 +22,19 @@ pub fn new_plan(number: u32) -> Plan
 /// Performs the calls of a journal on a plan, one after another, and writes each one's reply beside it.
 pub fn perform_all<K: Kind>(
     plan: &mut Plan,
-    tracks: &mut [Track<K>],
-    runs: &mut [Run<K>],
-    connections: &mut [Connection<K>],
-    settings: &mut [u8],
-    times: &mut [K],
-    trial: &mut [K],
-    ring: &mut [u16],
-    counts: &mut [u16],
-    sums: &mut [u32],
-    befores: &mut [u16],
-    floors: &mut [K],
-    arcs: &mut [Arc<K>],
-    tables: &mut [K],
-    marks: &mut [u16],
-    slips: &mut [Option<Slip>],
+    memories: &mut Memories<'_, K>,
     journal: &mut [Line<K>],
 )
     ensures calls { map call_of journal.new ≡ map call_of journal.old }
-    ensures steps { Steps K.Kind.time (sizes (length tracks.old) (length runs.old) (length connections.old) (length settings.old) (length trial.old) (length slips.old) (lengths (length times.old) (length ring.old) (length counts.old) (length sums.old) (length befores.old) (length floors.old) (length arcs.old) (length tables.old) (length marks.old))) (state plan.old tracks.old runs.old connections.old settings.old times.old slips.old) journal.new (state plan.new tracks.new runs.new connections.new settings.new times.new slips.new) }
-    ensures fresh { (number slots : ℕ) → plan.old ≡ stage.Draft (blank number) → map is_some slips.old ≡ replicate slots false → ToldAll K.Kind.time (sizes (length tracks.old) (length runs.old) (length connections.old) (length settings.old) (length trial.old) (length slips.old) (lengths (length times.old) (length ring.old) (length counts.old) (length sums.old) (length befores.old) (length floors.old) (length arcs.old) (length tables.old) (length marks.old))) (new number slots) journal.new × Stands K.Kind.time (registered K.Kind.time (new number slots) journal.new) (state plan.new tracks.new runs.new connections.new settings.new times.new slips.new) }
+    ensures steps { Steps K.Kind.time (sizes memories.old) (state plan.old memories.old) journal.new (state plan.new memories.new) }
+    ensures fresh { (number slots : ℕ) → plan.old ≡ stage.Draft (blank number) → map is_some memories.old.slips.now ≡ replicate slots false → ToldAll K.Kind.time (sizes memories.old) (new number slots) journal.new × Stands K.Kind.time (registered K.Kind.time (new number slots) journal.new) (state plan.new memories.new) }
+    ensures same { SameMemories memories.old memories.new }
 {
-    for i in 0..journal.len() {
-        let call = journal[i].call;
+    for line in journal.iter_mut() {
+        // A call uses its plan up, so another stands in its place meanwhile.
         let current = mem::replace(plan, Plan::Draft(make(0)));
-        let (next, reply) = perform(
-            current,
-            tracks,
-            runs,
-            connections,
-            settings,
-            times,
-            trial,
-            ring,
-            counts,
-            sums,
-            befores,
-            floors,
-            arcs,
-            tables,
-            marks,
-            slips,
-            call,
-        );
+        let (next, reply) = perform(current, memories, line.call);
         *plan = next;
-        journal[i] = Line { call, reply };
+        line.reply = reply;
     }
 }

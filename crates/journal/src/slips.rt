@@ -2,7 +2,6 @@
 ghost use Rattle.std.specs.Prelude.{◌≡◌, ℕ, ◌<◌, length, is_some, Some, None, slice_index_or, slice_set};
 
 use plan::Slip;
-use std::mem;
 
 /// Puts a slip into an empty slot.
 pub(crate) fn put_slip(slips: &mut [Option<Slip>], run: u16, slip: Slip)
@@ -10,7 +9,7 @@ pub(crate) fn put_slip(slips: &mut [Option<Slip>], run: u16, slip: Slip)
     requires free { slice_index_or slips.old run None ≡ None }
     ensures { slips.new ≡ slice_set slips.old run (Some slip) }
 {
-    match mem::replace(&mut slips[run as usize], Some(slip)) {
+    match slips[run as usize].replace(slip) {
         None => {}
         Some(_) => unreachable(),
     }
@@ -24,15 +23,12 @@ pub(crate) fn pick_slip(slips: &mut [Option<Slip>], run: u16) -> Option<Slip>
     if run as usize >= slips.len() {
         return None;
     }
-    mem::replace(&mut slips[run as usize], None)
+    slips[run as usize].take()
 }
 
 /// Whether a slip is kept for a run.
 pub(crate) fn kept_slip(slips: &[Option<Slip>], run: u16) -> bool
     ensures { result ≡ is_some (slice_index_or slips.now run None) }
 {
-    if run as usize >= slips.len() {
-        return false;
-    }
-    slips[run as usize].is_some()
+    slips.get(run as usize).is_some_and(Option::is_some)
 }

@@ -1,0 +1,62 @@
+-- A plan's state of its parts, and a step of what a match has found.
+use Rattle.std.proofs.Common.{◌≡◌, ℕ, List, Ok, Err, Result, Option, sym, ap, ◌∙◌, subst}
+use Rattle.std.specs.Prelude.{IsErr}
+use Rattle.std.specs.Result.{IsErrAnd}
+use Rattle.std.proofs.lemmas.Bool.{false≢true}
+use Rattle.kinds.specs.Time.{Time}
+use Rattle.records.specs.Lent.{Lists}
+use Rattle.rules.specs.declared.faults.PlanFault.{PlanFault}
+use Rattle.plan.specs.declared.states.Slip.{Slip}
+use Rattle.journal.specs.declared.calls.Call.{Call}
+use Rattle.journal.specs.declared.calls.CallFault.{CallFault}
+use Rattle.journal.specs.declared.calls.CallFault.TheVariants as fault
+use Rattle.journal.specs.declared.calls.Plan.{Plan}
+use Rattle.journal.specs.Books.{Books, Reply, after}
+use Rattle.journal.specs.declared.memories.Memories.{Memories}
+use Rattle.journal.specs.Memories.{Sizes, State, SameMemories}
+use Rattle.journal.specs.Promise.{Stands, Told}
+
+module _ {K : Type 0} where
+  abbrev pub state_of : Plan → Lists K → List K → List (Option Slip) → State K
+  state_of p records times slips = record { plan = p; records = records; times = times; slips = slips }
+
+  pub same_state : {p q : Plan} {r r' : Lists K} {ts ts' : List K} {ss ss' : List (Option Slip)} → p ≡ q → r ≡ r' → ts ≡ ts' → ss ≡ ss' → state_of p r ts ss ≡ state_of q r' ts' ss'
+  same_state a b c d = cc
+
+  pub same_on : (a b c : Memories K) → SameMemories a b → SameMemories b c → SameMemories a c
+  same_on a b c x y = record {
+    records = record {
+      tracks = y.records.tracks ∙ x.records.tracks;
+      runs = y.records.runs ∙ x.records.runs;
+      connections = y.records.connections ∙ x.records.connections;
+      settings = y.records.settings ∙ x.records.settings;
+    };
+    times = y.times ∙ x.times;
+    trial = y.trial ∙ x.trial;
+    ring = y.ring ∙ x.ring;
+    work = record {
+      counts = y.work.counts ∙ x.work.counts;
+      sums = y.work.sums ∙ x.work.sums;
+      befores = y.work.befores ∙ x.work.befores;
+      floors = y.work.floors ∙ x.work.floors;
+      arcs = y.work.arcs ∙ x.work.arcs;
+      tables = y.work.tables ∙ x.work.tables;
+      marks = y.work.marks ∙ x.work.marks;
+      long = y.work.long ∙ x.work.long;
+    };
+    slips = y.slips ∙ x.slips;
+    long = y.long ∙ x.long;
+  }
+
+  -- the call and the reply, as they were found to be
+  pub stepped : (t : Time K) {l : Sizes} (B : Books K) {c c' : Call K} {r r' : Reply K} {ring : List ℕ} {trial : List K} {s : State K} → c ≡ c' → r ≡ r'
+      → Told t l B c' r' ring trial × Stands t (after t B c' r') s → Told t l B c r ring trial × Stands t (after t B c r) s
+  stepped t {l} B {c} {c'} {r} {r'} {ring} {trial} {s} e f both =
+      let P : Call K → Type 0 = λ x. Told t l B x r ring trial × Stands t (after t B x r) s in
+      let Q : Reply K → Type 0 = λ y. Told t l B c' y ring trial × Stands t (after t B c' y) s in
+      subst P (sym e) (subst Q (sym f) both)
+
+-- a fault of the plan that was passed on
+pub passed_on : {X : Type 0} (r : Result X CallFault) (f : PlanFault) → IsErr r × IsErrAnd r (λ e. e ≡ fault.Plan f) → r ≡ Err (fault.Plan f)
+passed_on (Err e) f h = ap Err h.1
+passed_on (Ok x) f h = absurd (false≢true h.0)
