@@ -84,7 +84,7 @@ run_same {K} t d d' m r' x listed passed written lent =
       times = refl;
       trial = refl;
       ring = refl;
-      work = record { counts = refl; sums = refl; befores = refl; floors = refl; arcs = refl; tables = refl; marks = refl; long = refl };
+      work = record { places = refl; floors = refl; arcs = refl; tables = refl; marks = refl; long = refl };
       slips = refl;
       long = same_sizes
           (ap (λ (y : Memory K). length y.tracks) written)

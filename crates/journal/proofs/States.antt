@@ -35,9 +35,7 @@ module _ {K : Type 0} where
     trial = y.trial ∙ x.trial;
     ring = y.ring ∙ x.ring;
     work = record {
-      counts = y.work.counts ∙ x.work.counts;
-      sums = y.work.sums ∙ x.work.sums;
-      befores = y.work.befores ∙ x.work.befores;
+      places = y.work.places ∙ x.work.places;
       floors = y.work.floors ∙ x.work.floors;
       arcs = y.work.arcs ∙ x.work.arcs;
       tables = y.work.tables ∙ x.work.tables;
