@@ -5,7 +5,7 @@ use Rattle.network.specs.declared.Arc.{Arc}
 use Rattle.records.specs.declared.Track.{Track}
 use Rattle.records.specs.declared.Run.{Run}
 use Rattle.records.specs.declared.Connection.{Connection}
-use Rattle.records.specs.Records.{run_at, track_at, connection_at, track_of_lem}
+use Rattle.records.specs.Records.{run_at, track_at, connection_at, track_of}
 use Rattle.records.specs.Places.{Ordered}
 use Rattle.records.specs.Register.{Register}
 
@@ -51,7 +51,7 @@ module _ {K : Type 0} where
 
     -- the number of the track of a run
     abbrev pub track_in : ℕ → ℕ
-    track_in = track_of_lem t R.runs
+    track_in = track_of t R.runs
 
     -- the track of a run
     abbrev pub track_under : ℕ → Track K

@@ -21,7 +21,7 @@ use Rattle.rules.specs.declared.faults.PlanFault.{PlanFault}
 use Rattle.rules.specs.declared.switches.Switch.{Switch}
 use Rattle.rules.specs.declared.switches.Switch.TheVariants as switch
 use Rattle.rules.specs.Faults.{plan_number, plan_place}
-use Rattle.rules.specs.Rows.{RecordsListed, open_rows, Given, report_rows, turning_rows, event_rows, switch_rows, setting_of_lem}
+use Rattle.rules.specs.Rows.{RecordsListed, open_rows, Given, report_rows, turning_rows, event_rows, switch_rows, setting_of}
 use Rattle.rules.proofs.Rows.{passed_front, passed_back, report_passed, setting_named, turning_set}
 use Rattle.plan.specs.declared.states.Open.{Open}
 use Rattle.plan.specs.States.{memory}
@@ -279,9 +279,9 @@ module _ {K : Type 0} (t : Time K) (laws : Laws t) (o : Open) (m : Memories K) (
           let P : Lists K → Type 0 = λ x. First (open_rows t (memory o.numbers x) m.times.now) (plan_number f) (plan_place f) in
           first_not_passed (open_rows t before m.times.now) _ _ (subst P lent first) open_passed
 
-      pub setting_step : (s : Switch) (n : ℕ) → Passed (open_rows t (memory o.numbers r) m.times.now ++ switch_rows t (register_of t (memory o.numbers r)) s) → n ≡ setting_of_lem t (register_of t (memory o.numbers r)) s → Told t (sizes m) B (call.Setting s) (Ok (answer.Setting n)) ring trial
+      pub setting_step : (s : Switch) (n : ℕ) → Passed (open_rows t (memory o.numbers r) m.times.now ++ switch_rows t (register_of t (memory o.numbers r)) s) → n ≡ setting_of t (register_of t (memory o.numbers r)) s → Told t (sizes m) B (call.Setting s) (Ok (answer.Setting n)) ring trial
       setting_step s n passed e =
-          let P : Lists K → Type 0 = λ x. Passed (open_rows t (memory o.numbers x) m.times.now ++ switch_rows t (register_of t (memory o.numbers x)) s) × (n ≡ setting_of_lem t (register_of t (memory o.numbers x)) s) in
+          let P : Lists K → Type 0 = λ x. Passed (open_rows t (memory o.numbers x) m.times.now ++ switch_rows t (register_of t (memory o.numbers x)) s) × (n ≡ setting_of t (register_of t (memory o.numbers x)) s) in
           let both = subst P lent (passed, e) in
           let own = passed_back (open_rows t before m.times.now) (switch_rows t was s) both.0 in
           record {

@@ -16,7 +16,7 @@ use Rattle.rules.specs.declared.faults.PlanFault.{PlanFault}
 use Rattle.rules.specs.declared.switches.Switch.{Switch}
 use Rattle.rules.specs.declared.switches.Switch.TheVariants as switch
 use Rattle.rules.specs.Faults.{plan_number, plan_place}
-use Rattle.rules.specs.Rows.{RecordsListed, draft_rows, track_rows, run_rows, connection_rows, setting_rows, switch_rows, setting_of_lem}
+use Rattle.rules.specs.Rows.{RecordsListed, draft_rows, track_rows, run_rows, connection_rows, setting_rows, switch_rows, setting_of}
 use Rattle.rules.proofs.Rows.{passed_back, track_passed, run_passed, connection_passed, setting_named}
 use Rattle.plan.specs.declared.states.Draft.{Draft}
 use Rattle.plan.specs.States.{memory}
@@ -269,9 +269,9 @@ module _ {K : Type 0} (t : Time K) (d : Draft) (m : Memories K) (listed : AllLis
           (draft_refused (call.Preset s setting) own refl (shared.setting s setting) (setting_under t was s setting) f first, draft_kept d r' refl e)
 
     module _ (r : Lists K) (lent : r ≡ lists_mut m.records) where
-      pub setting_step : (s : Switch) (n : ℕ) → Passed (setting_call_rows t (memory d.numbers r) s) → n ≡ setting_of_lem t (register_of t (memory d.numbers r)) s → Told t (sizes m) B (call.Setting s) (Ok (answer.Setting n)) ring trial
+      pub setting_step : (s : Switch) (n : ℕ) → Passed (setting_call_rows t (memory d.numbers r) s) → n ≡ setting_of t (register_of t (memory d.numbers r)) s → Told t (sizes m) B (call.Setting s) (Ok (answer.Setting n)) ring trial
       setting_step s n passed e =
-          let P : Lists K → Type 0 = λ x. Passed (setting_call_rows t (memory d.numbers x) s) × (n ≡ setting_of_lem t (register_of t (memory d.numbers x)) s) in
+          let P : Lists K → Type 0 = λ x. Passed (setting_call_rows t (memory d.numbers x) s) × (n ≡ setting_of t (register_of t (memory d.numbers x)) s) in
           let both = subst P lent (passed, e) in
           let own = passed_back (draft_rows t before) (switch_rows t was s) both.0 in
           record {

@@ -11,7 +11,7 @@ use Rattle.records.specs.Stored.{Stored, Drafted}
 use Rattle.force.specs.Constraints.{in_force, arcs_in_force}
 use Rattle.cost.specs.Cost.{delay_cost_lem}
 use Rattle.rules.specs.declared.faults.PlanFault.TheVariants as refused
-use Rattle.rules.specs.Rows.{Given, setting_of_lem}
+use Rattle.rules.specs.Rows.{Given, setting_of}
 use Rattle.plan.specs.declared.states.Slip.{Slip}
 use Rattle.plan.specs.declared.states.Numbers.{Numbers}
 use Rattle.plan.specs.States.{memory}
@@ -49,7 +49,7 @@ module _ {K : Type 0} where
     Carries B (call.Connection x) a trial = a ≡ answer.Number (length B.register.connections)
     Carries B (call.Trial s setting) a trial = Least t (in_force t (set_switch B.register s setting)) (at t trial) × (a ≡ answer.Cost (delay_cost_lem t (set_switch B.register s setting) (at t trial)))
     Carries B (call.Time v) a trial = (time : ℕ → K) × Least t (in_force t B.register) time × (a ≡ answer.Time (time v))
-    Carries B (call.Setting s) a trial = a ≡ answer.Setting (setting_of_lem t B.register s)
+    Carries B (call.Setting s) a trial = a ≡ answer.Setting (setting_of t B.register s)
     Carries B call.Cost a trial = (time : ℕ → K) × Least t (in_force t B.register) time × (a ≡ answer.Cost (delay_cost_lem t B.register time))
     Carries B _ a trial = a ≡ answer.Done
 

@@ -7,7 +7,7 @@ use Rattle.network.specs.Refusals.{Answers}
 use Rattle.records.specs.declared.Run.{Run}
 use Rattle.records.specs.declared.Track.{Track}
 use Rattle.records.specs.declared.Connection.{Connection}
-use Rattle.records.specs.Records.{track_of_lem}
+use Rattle.records.specs.Records.{track_of}
 use Rattle.records.specs.Places.{total, count}
 use Rattle.records.specs.Register.{Register, Memory, register_of}
 use Rattle.records.proofs.Counts.{total_more, total_kept, count_kept}
@@ -37,7 +37,7 @@ module _ {K : Type 0} (t : Time K) where
     run_room x (Err f) a = tt
     run_room x (Ok u) a =
         let h = run_passed t (register_of t m) x a in
-        let f = track_of_lem t (take m.run_count m.runs) in
+        let f = track_of t (take m.run_count m.runs) in
         let e = ap (λ (i : ℕ). total f i + count f x.track i) long in
         (sound, (omega (arith, h.room, long), (omega (arith, h.linked.1.0, sound.stored.limits.few_tracks), omega (arith, h.orders))))
 
@@ -51,41 +51,41 @@ module _ {K : Type 0} (t : Time K) where
         (there.is, omega arith)
 
     -- the track of an entered run
-    pub track_was : (k : ℕ) → k < m.run_count → track_of_lem t (take m.run_count m.runs) k ≡ track_of_lem t m.runs k
+    pub track_was : (k : ℕ) → k < m.run_count → track_of t (take m.run_count m.runs) k ≡ track_of t m.runs k
     track_was k h = ap (λ y. y.track) (get_or-take m.run_count m.runs k _ h)
 
-    pub on_tracks : (k : ℕ) → k < m.run_count → track_of_lem t m.runs k < 64
+    pub on_tracks : (k : ℕ) → k < m.run_count → track_of t m.runs k < 64
     on_tracks k h =
         let e = long in
         let s = track_was k h in
         omega (arith, (sound.stored.limits.runs.each k (omega arith)).0.1.0, sound.stored.limits.few_tracks)
 
-    pub orders_was : total (track_of_lem t m.runs) m.run_count ≡ orders_entered t m
-    orders_was = total_kept (track_of_lem t m.runs) (track_of_lem t (take m.run_count m.runs)) m.run_count (λ k h. sym (track_was k h))
+    pub orders_was : total (track_of t m.runs) m.run_count ≡ orders_entered t m
+    orders_was = total_kept (track_of t m.runs) (track_of t (take m.run_count m.runs)) m.run_count (λ k h. sym (track_was k h))
 
     -- one run more
     module _ (x : Run K) (room : m.run_count < 512) where
       inside : m.run_count < length m.runs
       inside = omega (arith, sound.listed.runs, room)
 
-      track_new : track_of_lem t (set m.runs m.run_count x) m.run_count ≡ x.track
+      track_new : track_of t (set m.runs m.run_count x) m.run_count ≡ x.track
       track_new = ap (λ y. y.track) (get_or-set_same m.runs m.run_count x _ inside)
 
-      track_old : (k : ℕ) → k < m.run_count → track_of_lem t (set m.runs m.run_count x) k ≡ track_of_lem t m.runs k
+      track_old : (k : ℕ) → k < m.run_count → track_of t (set m.runs m.run_count x) k ≡ track_of t m.runs k
       track_old k h = ap (λ y. y.track) (get_or-set_other m.runs m.run_count k x _ (omega arith))
 
-      pub on_tracks_more : x.track < 64 → (k : ℕ) → k < m.run_count + 1 → track_of_lem t (set m.runs m.run_count x) k < 64
+      pub on_tracks_more : x.track < 64 → (k : ℕ) → k < m.run_count + 1 → track_of t (set m.runs m.run_count x) k < 64
       on_tracks_more small k h =
           elim (cases_lt k m.run_count) [
             | inl l ↦ (let e = track_old k l in let s = on_tracks k l in omega arith)
-            | inr l ↦ (let q : k ≡ m.run_count = omega arith in let z = ap (track_of_lem t (set m.runs m.run_count x)) q in let e = track_new in omega arith)
+            | inr l ↦ (let q : k ≡ m.run_count = omega arith in let z = ap (track_of t (set m.runs m.run_count x)) q in let e = track_new in omega arith)
           ]
 
-      pub orders_more : total (track_of_lem t (set m.runs m.run_count x)) (m.run_count + 1) ≡ orders_entered t m + orders_added t m x.track
+      pub orders_more : total (track_of t (set m.runs m.run_count x)) (m.run_count + 1) ≡ orders_entered t m + orders_added t m x.track
       orders_more =
           let n = m.run_count in
-          let f = track_of_lem t (take n m.runs) in
-          let g = track_of_lem t (set m.runs n x) in
+          let f = track_of t (take n m.runs) in
+          let g = track_of t (set m.runs n x) in
           let same : (k : ℕ) → k < n → g k ≡ f k = λ k h. track_old k h ∙ sym (track_was k h) in
           let a = total_more g n in
           let b = total_kept g f n same in
@@ -93,8 +93,8 @@ module _ {K : Type 0} (t : Time K) where
           let d = count_kept g f x.track n same in omega arith
 
       -- the orders before the run, and with those that it brings, counted in the lists as they are then
-      pub orders_parts : (first all : ℕ) (runs runs' : List (Run K)) → runs ≡ m.runs → first ≡ total (track_of_lem t runs) m.run_count → runs' ≡ set m.runs m.run_count x → all ≡ total (track_of_lem t runs') (m.run_count + 1) → (first ≡ orders_entered t m) × (all ≡ orders_entered t m + orders_added t m x.track)
+      pub orders_parts : (first all : ℕ) (runs runs' : List (Run K)) → runs ≡ m.runs → first ≡ total (track_of t runs) m.run_count → runs' ≡ set m.runs m.run_count x → all ≡ total (track_of t runs') (m.run_count + 1) → (first ≡ orders_entered t m) × (all ≡ orders_entered t m + orders_added t m x.track)
       orders_parts first all runs runs' is before written after = (
-        before ∙ ap (λ xs. total (track_of_lem t xs) m.run_count) is ∙ orders_was,
-        after ∙ ap (λ xs. total (track_of_lem t xs) (m.run_count + 1)) written ∙ orders_more,
+        before ∙ ap (λ xs. total (track_of t xs) m.run_count) is ∙ orders_was,
+        after ∙ ap (λ xs. total (track_of t xs) (m.run_count + 1)) written ∙ orders_more,
       )

@@ -5,7 +5,7 @@ use Rattle.std.proofs.lemmas.Bool.{cases_eq, cases_lt}
 use Rattle.std.proofs.lemmas.List.{get_or-set_same, get_or-set_other, get_or-take, length-take-le, length-set}
 use Rattle.kinds.specs.Time.{Time}
 use Rattle.records.specs.declared.Run.{Run}
-use Rattle.records.specs.Records.{run_at, track_of_lem}
+use Rattle.records.specs.Records.{run_at, track_of}
 use Rattle.records.specs.Places.{total, place, Ordered}
 use Rattle.records.specs.Register.{Memory}
 use Rattle.records.specs.Stored.{Stored, ConnectionsStored, RunStored, SizedIfAny}
@@ -40,7 +40,7 @@ module _ {K : Type 0} (t : Time K) where
       tracks = h.limits.tracks;
       runs = h.limits.runs;
       connections = h.limits.connections;
-      orders = λ i j o. flag_set m.settings p s (place (track_of_lem t (take m.run_count m.runs)) i j) small (h.limits.orders i j o);
+      orders = λ i j o. flag_set m.settings p s (place (track_of t (take m.run_count m.runs)) i j) small (h.limits.orders i j o);
       links = λ c l. flag_set m.settings p s (4096 + c) small (h.limits.links c l);
     };
   }
@@ -62,17 +62,17 @@ module _ {K : Type 0} (t : Time K) where
     pub run_there : (k : ℕ) → k < m.run_count → (k ≡ r → ⊥) → run_at t (take m.run_count (set m.runs r x)) k ≡ run_at t (take m.run_count m.runs) k
     run_there k h ne = get_or-take m.run_count (set m.runs r x) k _ h ∙ get_or-set_other m.runs r k x _ ne ∙ sym (get_or-take m.run_count m.runs k _ h)
 
-    pub track_kept : (k : ℕ) → k < m.run_count → track_of_lem t (take m.run_count (set m.runs r x)) k ≡ track_of_lem t (take m.run_count m.runs) k
+    pub track_kept : (k : ℕ) → k < m.run_count → track_of t (take m.run_count (set m.runs r x)) k ≡ track_of t (take m.run_count m.runs) k
     track_kept k h =
         elim (cases_eq k r) [
-          | inl e ↦ ap (λ i. track_of_lem t (take m.run_count (set m.runs r x)) i) e ∙ ap (λ y. y.track) run_here ∙ same_track ∙ ap (λ y. y.track) (sym (get_or-take m.run_count m.runs r _ inside)) ∙ ap (λ i. track_of_lem t (take m.run_count m.runs) i) (sym e)
+          | inl e ↦ ap (λ i. track_of t (take m.run_count (set m.runs r x)) i) e ∙ ap (λ y. y.track) run_here ∙ same_track ∙ ap (λ y. y.track) (sym (get_or-take m.run_count m.runs r _ inside)) ∙ ap (λ i. track_of t (take m.run_count m.runs) i) (sym e)
           | inr ne ↦ ap (λ y. y.track) (run_there k h ne)
         ]
 
-    pub place_same : (i j : ℕ) → i < j → j < m.run_count → place (track_of_lem t (take m.run_count (set m.runs r x))) i j ≡ place (track_of_lem t (take m.run_count m.runs)) i j
+    pub place_same : (i j : ℕ) → i < j → j < m.run_count → place (track_of t (take m.run_count (set m.runs r x))) i j ≡ place (track_of t (take m.run_count m.runs)) i j
     place_same i j h l = place_kept _ _ i j h (λ k b. track_kept k (omega arith))
 
-    pub ordered_was : (i j : ℕ) → Ordered (track_of_lem t (take m.run_count (set m.runs r x))) (length (take m.run_count (set m.runs r x))) i j → Ordered (track_of_lem t (take m.run_count m.runs)) (length (take m.run_count m.runs)) i j
+    pub ordered_was : (i j : ℕ) → Ordered (track_of t (take m.run_count (set m.runs r x))) (length (take m.run_count (set m.runs r x))) i j → Ordered (track_of t (take m.run_count m.runs)) (length (take m.run_count m.runs)) i j
     ordered_was i j o =
         let b = o.below in
         let e = long_now in
@@ -97,9 +97,9 @@ module _ {K : Type 0} (t : Time K) where
             few_runs = let l = stored.few_runs in omega arith;
             few_connections = stored.limits.few_connections;
             few_orders =
-                let z = total_kept (track_of_lem t (take m.run_count (set m.runs r x))) (track_of_lem t (take m.run_count m.runs)) m.run_count track_kept in
-                let y = ap (total (track_of_lem t (take m.run_count (set m.runs r x)))) e in
-                let w = ap (total (track_of_lem t (take m.run_count m.runs))) f in
+                let z = total_kept (track_of t (take m.run_count (set m.runs r x))) (track_of t (take m.run_count m.runs)) m.run_count track_kept in
+                let y = ap (total (track_of t (take m.run_count (set m.runs r x)))) e in
+                let w = ap (total (track_of t (take m.run_count m.runs))) f in
                 let l = stored.limits.few_orders in
                 omega arith;
             tracks = stored.limits.tracks;

@@ -4,7 +4,7 @@ use Rattle.kinds.specs.Time.{Time}
 use Rattle.records.specs.declared.Track.{Track}
 use Rattle.records.specs.declared.Run.{Run}
 use Rattle.records.specs.declared.Connection.{Connection}
-use Rattle.records.specs.Records.{run_at, track_of_lem}
+use Rattle.records.specs.Records.{run_at, track_of}
 use Rattle.records.specs.Places.{total, count}
 use Rattle.records.specs.Register.{Memory, register_of}
 use Rattle.rules.specs.declared.switches.Switch.{Switch}
@@ -47,10 +47,10 @@ module _ {K : Type 0} where
   module _ (t : Time K) where
     -- how many orders there are, and how many more there are with one more run on track x
     abbrev pub orders_entered : Memory K → ℕ
-    orders_entered m = total (track_of_lem t (take m.run_count m.runs)) m.run_count
+    orders_entered m = total (track_of t (take m.run_count m.runs)) m.run_count
 
     abbrev pub orders_added : Memory K → ℕ → ℕ
-    orders_added m x = count (track_of_lem t (take m.run_count m.runs)) x m.run_count
+    orders_added m x = count (track_of t (take m.run_count m.runs)) x m.run_count
 
     -- a run behind those that are entered, with the bytes of its orders, which lie behind those of all earlier ones, cleared
     abbrev pub run_memory : Memory K → Run K → Memory K

@@ -1,11 +1,11 @@
 //! The calls on a draft.
 ghost use Rattle.std.specs.Prelude.{◌≡◌, ℕ, ◌+◌, ◌<◌, ◌≤◌, length, IfOk, MatchResult};
 ghost use Rattle.records.specs.Lent.{lists_in, lists_mut, SameRecords};
-ghost use Rattle.records.specs.Records.{track_of_lem};
+ghost use Rattle.records.specs.Records.{track_of};
 ghost use Rattle.records.specs.Places.{total};
 ghost use Rattle.records.specs.Register.{register_of};
 ghost use Rattle.rules.specs.Faults.{PlanAnswers};
-ghost use Rattle.rules.specs.Rows.{setting_of_lem};
+ghost use Rattle.rules.specs.Rows.{setting_of};
 ghost use Rattle.plan.specs.States.{memory};
 ghost use Rattle.plan.specs.Steps.{cleared, track_memory, run_memory, connection_memory, switch_memory};
 ghost use Rattle.plan.specs.Drafting.{track_call_rows, run_call_rows, connection_call_rows, preset_call_rows, setting_call_rows, blank};
@@ -36,8 +36,8 @@ pub fn make(number: u32) -> Draft
 fn orders_below<K: Kind>(runs: &[Run<K>], n: usize) -> usize
     requires inside { n ≤ length runs.now }
     requires few { n ≤ 512 }
-    requires tracks { (k : ℕ) → k < n → track_of_lem K.Kind.time runs.now k < 64 }
-    ensures { result ≡ total (track_of_lem K.Kind.time runs.now) n }
+    requires tracks { (k : ℕ) → k < n → track_of K.Kind.time runs.now k < 64 }
+    ensures { result ≡ total (track_of K.Kind.time runs.now) n }
 {
     count_orders(&runs[..n]) as usize
 }
@@ -133,7 +133,7 @@ impl Draft {
     /// The setting of an order or a connection.
     pub fn setting<K: Kind>(&self, records: Records<'_, K>, switch: Switch) -> Result<u8, PlanFault>
         ensures rows { PlanAnswers (setting_call_rows K.Kind.time (memory self.now.numbers (lists_in records.entry)) switch) result }
-        ensures reads { IfOk result (λ s. s ≡ setting_of_lem K.Kind.time (register_of K.Kind.time (memory self.now.numbers (lists_in records.entry))) switch) }
+        ensures reads { IfOk result (λ s. s ≡ setting_of K.Kind.time (register_of K.Kind.time (memory self.now.numbers (lists_in records.entry))) switch) }
     {
         let e = admit(self.numbers, records)?;
         find_setting(&e, switch)

@@ -4,7 +4,7 @@ ghost use Rattle.network.specs.Reckoning.{at as time_at};
 ghost use Rattle.records.specs.Lent.{lists_in};
 ghost use Rattle.records.specs.Register.{register_of};
 ghost use Rattle.rules.specs.Faults.{PlanAnswers};
-ghost use Rattle.rules.specs.Rows.{open_rows, event_rows, switch_rows, setting_of_lem};
+ghost use Rattle.rules.specs.Rows.{open_rows, event_rows, switch_rows, setting_of};
 ghost use Rattle.cost.specs.Cost.{delay_cost_lem};
 ghost use Rattle.plan.specs.States.{memory};
 
@@ -39,7 +39,7 @@ impl Open {
         switch: Switch,
     ) -> Result<u8, PlanFault>
         ensures rows { let m = memory self.now.numbers (lists_in records.entry) in PlanAnswers (open_rows K.Kind.time m times.now ++ switch_rows K.Kind.time (register_of K.Kind.time m) switch) result }
-        ensures value { IfOk result (λ x. x ≡ setting_of_lem K.Kind.time (register_of K.Kind.time (memory self.now.numbers (lists_in records.entry))) switch) }
+        ensures value { IfOk result (λ x. x ≡ setting_of K.Kind.time (register_of K.Kind.time (memory self.now.numbers (lists_in records.entry))) switch) }
     {
         let e = admit_shown(self.numbers, records, times)?;
         find_setting(&e, switch)

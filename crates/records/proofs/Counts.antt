@@ -7,7 +7,7 @@ use Rattle.kinds.specs.Time.{Time}
 use Rattle.records.specs.declared.Run.{Run}
 use Rattle.records.specs.declared.places.Place.{Place}
 use Rattle.records.specs.declared.places.Tally.{Tally}
-use Rattle.records.specs.Records.{run_at, track_of_lem, OnTracks}
+use Rattle.records.specs.Records.{run_at, track_of, OnTracks}
 use Rattle.records.specs.Places.{count, earlier, total, place, Ordered, Previous, Laid, laid_for, PlacesApart, PlacesKept}
 
 pub count_hit : (f : ℕ → ℕ) (x j : ℕ) → f j ≡ x → count f x (j + 1) ≡ count f x j + 1
@@ -142,9 +142,9 @@ pub record Turn (f : ℕ → ℕ) (j x : ℕ) : Type 0 where
   pub below : total f j ≤ 512 * j
   pub more : total f (j + 1) ≡ earlier f j + total f j
 
-pub turn : {K : Type 0} (t : Time K) (runs : List (Run K)) (j : ℕ) (r : Run K) → length runs ≤ 512 → OnTracks t runs → j < length runs → r ≡ get_or runs j r → Turn (track_of_lem t runs) j r.track
+pub turn : {K : Type 0} (t : Time K) (runs : List (Run K)) (j : ℕ) (r : Run K) → length runs ≤ 512 → OnTracks t runs → j < length runs → r ≡ get_or runs j r → Turn (track_of t runs) j r.track
 turn t runs j r few tracks inside is =
-    let f = track_of_lem t runs in
+    let f = track_of t runs in
     let e : r ≡ run_at t runs j = get_or_read runs j r inside is _ in
     let on : r.track ≡ f j = ap (λ x. x.track) e in
     record {

@@ -29,9 +29,9 @@ module _ {K : Type 0} (t : Time K) where
   connection_at connections k = slice_index_or connections k (record { feeder = 0; onward = 0; penalty = 0; time = t.none })
 
   -- the number of the track of run k
-  abbrev pub track_of_lem : List (Run K) → ℕ → ℕ
-  track_of_lem runs k = (run_at runs k).track
+  abbrev pub track_of : List (Run K) → ℕ → ℕ
+  track_of runs k = (run_at runs k).track
 
   -- each run names one of 64 tracks
   abbrev pub OnTracks : List (Run K) → Type 0
-  OnTracks runs = (k : ℕ) → k < length runs → track_of_lem runs k < 64
+  OnTracks runs = (k : ℕ) → k < length runs → track_of runs k < 64

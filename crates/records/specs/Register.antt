@@ -5,7 +5,7 @@ use Rattle.records.specs.declared.Run.{Run}
 use Rattle.records.specs.declared.Track.{Track}
 use Rattle.records.specs.declared.Connection.{Connection}
 use Rattle.records.specs.declared.View.{View}
-use Rattle.records.specs.Records.{track_of_lem}
+use Rattle.records.specs.Records.{track_of}
 use Rattle.records.specs.Places.{place}
 
 -- Records in the order of their entry. A run carries the reports of its two events and its hold. order i j is the setting of the
@@ -58,7 +58,7 @@ module _ {K : Type 0} where
       tracks = tracks;
       runs = runs;
       connections = connections;
-      order = λ i j. slice_index settings (place (track_of_lem t runs) i j);
+      order = λ i j. slice_index settings (place (track_of t runs) i j);
       link = λ c. slice_index settings (4096 + c);
     }
 

@@ -4,7 +4,7 @@ use Rattle.kinds.specs.Time.{Time}
 use Rattle.records.specs.declared.Run.{Run}
 use Rattle.records.specs.declared.Track.{Track}
 use Rattle.records.specs.declared.Connection.{Connection}
-use Rattle.records.specs.Records.{run_at, track_at, connection_at, track_of_lem}
+use Rattle.records.specs.Records.{run_at, track_at, connection_at, track_of}
 use Rattle.records.specs.Places.{total, Ordered}
 use Rattle.records.specs.Register.{Register, Memory, register_from, register_of}
 
@@ -67,11 +67,11 @@ module _ {K : Type 0} where
       pub few_tracks : length R.tracks ≤ 64
       pub few_runs : length R.runs ≤ 512
       pub few_connections : length R.connections ≤ 512
-      pub few_orders : total (track_of_lem t R.runs) (length R.runs) ≤ 4096
+      pub few_orders : total (track_of t R.runs) (length R.runs) ≤ 4096
       pub tracks : TracksStored R.tracks
       pub runs : RunsStored (length R.tracks) R.runs
       pub connections : ConnectionsStored (length R.runs) R.connections
-      pub orders : (i j : ℕ) → Ordered (track_of_lem t R.runs) (length R.runs) i j → R.order i j ≤ 1
+      pub orders : (i j : ℕ) → Ordered (track_of t R.runs) (length R.runs) i j → R.order i j ≤ 1
       pub links : (c : ℕ) → c < length R.connections → R.link c ≤ 1
 
     -- Lists of records that keep the limits with the bytes of their settings, of which there are 4,608.

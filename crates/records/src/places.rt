@@ -1,7 +1,7 @@
 //! Where the setting of each order lies.
 ghost use Rattle.std.specs.Prelude.{◌≡◌, ℕ, ◌+◌, ◌<◌, ◌≤◌, length};
 ghost use Rattle.records.specs.Places.{total, Laid};
-ghost use Rattle.records.specs.Records.{track_of_lem, OnTracks};
+ghost use Rattle.records.specs.Records.{track_of, OnTracks};
 
 use crate::Run;
 use kinds::Kind;
@@ -27,8 +27,8 @@ pub(crate) fn lay_out<K: Kind>(runs: &[Run<K>], places: &mut [Place]) -> u32
     requires few { length runs.now ≤ 512 }
     requires room { length runs.now ≤ length places.old }
     requires tracks { OnTracks K.Kind.time runs.now }
-    ensures laid { Laid (track_of_lem K.Kind.time runs.now) (length runs.now) places.new }
-    ensures orders { result ≡ total (track_of_lem K.Kind.time runs.now) (length runs.now) }
+    ensures laid { Laid (track_of K.Kind.time runs.now) (length runs.now) places.new }
+    ensures orders { result ≡ total (track_of K.Kind.time runs.now) (length runs.now) }
 {
     let mut tallies = [Tally {
         count: 0,
@@ -53,7 +53,7 @@ pub(crate) fn lay_out<K: Kind>(runs: &[Run<K>], places: &mut [Place]) -> u32
 pub fn count_orders<K: Kind>(runs: &[Run<K>]) -> u32
     requires few { length runs.now ≤ 512 }
     requires tracks { OnTracks K.Kind.time runs.now }
-    ensures { result ≡ total (track_of_lem K.Kind.time runs.now) (length runs.now) }
+    ensures { result ≡ total (track_of K.Kind.time runs.now) (length runs.now) }
 {
     let mut counts = [0u16; 64];
     let mut sum = 0;

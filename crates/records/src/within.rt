@@ -21,7 +21,7 @@ impl<'v, K: Kind> Entered<'v, K> {
     ghost use Rattle.records.specs.Entered.{TakenFrom, lists_of};
     ghost use Rattle.records.specs.Lent.{lists_in};
     ghost use Rattle.records.specs.Places.{total, Laid};
-    ghost use Rattle.records.specs.Records.{track_at, run_at, connection_at, track_of_lem};
+    ghost use Rattle.records.specs.Records.{track_at, run_at, connection_at, track_of};
     ghost use Rattle.records.specs.Register.{seen};
     ghost use Rattle.records.specs.Stored.{Stored};
 
@@ -92,8 +92,8 @@ impl<'v, K: Kind> Entered<'v, K> {
     /// order of `i` and `j` has its setting at `places[j].sum + places[i].earlier`.
     pub fn lay_out(&self, places: &mut [Place]) -> u32
         requires { length self.now.runs.now ≤ length places.old }
-        ensures laid { Laid (track_of_lem K.Kind.time self.now.runs.now) (length self.now.runs.now) places.new }
-        ensures orders { result ≡ total (track_of_lem K.Kind.time self.now.runs.now) (length self.now.runs.now) }
+        ensures laid { Laid (track_of K.Kind.time self.now.runs.now) (length self.now.runs.now) places.new }
+        ensures orders { result ≡ total (track_of K.Kind.time self.now.runs.now) (length self.now.runs.now) }
     {
         lay_out(self.runs, places)
     }

@@ -8,7 +8,7 @@ use Rattle.network.specs.Refusals.{Passed}
 use Rattle.records.specs.declared.Track.{Track}
 use Rattle.records.specs.declared.Run.{Run}
 use Rattle.records.specs.declared.Connection.{Connection}
-use Rattle.records.specs.Records.{track_of_lem}
+use Rattle.records.specs.Records.{track_of}
 use Rattle.records.specs.Places.{count, earlier, total, place, Ordered}
 use Rattle.records.specs.Register.{Memory, register_of}
 use Rattle.records.specs.Stored.{Stored}
@@ -55,7 +55,7 @@ module _ {K : Type 0} (t : Time K) (m : Memory K) where
       }
 
   -- another run on the same track
-  pub run_agrees : (r : ℕ) (x : Run K) → r < m.run_count → x.track ≡ track_of_lem t (take m.run_count m.runs) r → Same t (register_of t (with_runs m (set m.runs r x))) (with_run (register_of t m) r x)
+  pub run_agrees : (r : ℕ) (x : Run K) → r < m.run_count → x.track ≡ track_of t (take m.run_count m.runs) r → Same t (register_of t (with_runs m (set m.runs r x))) (with_run (register_of t m) r x)
   run_agrees r x inside e =
       let n = m.run_count in
       let made = take-set-lt n m.runs r x inside in
@@ -63,7 +63,7 @@ module _ {K : Type 0} (t : Time K) (m : Memory K) where
         tracks = refl;
         runs = made;
         connections = refl;
-        orders = λ i j o. ap (λ (p : ℕ). get_or m.settings p 0) (place_kept _ _ i j o.below (λ k l. ap (λ ys. track_of_lem t ys k) made ∙ track_still t (take n m.runs) r x e k));
+        orders = λ i j o. ap (λ (p : ℕ). get_or m.settings p 0) (place_kept _ _ i j o.below (λ k l. ap (λ ys. track_of t ys k) made ∙ track_still t (take n m.runs) r x e k));
         links = λ c l. refl;
       }
 
@@ -86,15 +86,15 @@ module _ {K : Type 0} (t : Time K) (m : Memory K) where
 
     -- what a run's rows count as orders
     pub orders_counted : (x : ℕ) → orders_with t (register_of t m) x ≡ orders_entered t m + orders_added t m x
-    orders_counted x = ap (λ (n : ℕ). total (track_of_lem t (take m.run_count m.runs)) n + count (track_of_lem t (take m.run_count m.runs)) x n) long_runs
+    orders_counted x = ap (λ (n : ℕ). total (track_of t (take m.run_count m.runs)) n + count (track_of t (take m.run_count m.runs)) x n) long_runs
 
     -- the byte of an order lies before those of the connections
-    order_low : (i j : ℕ) → Ordered (track_of_lem t (take m.run_count m.runs)) (length (take m.run_count m.runs)) i j → place (track_of_lem t (take m.run_count m.runs)) i j < 4096
+    order_low : (i j : ℕ) → Ordered (track_of t (take m.run_count m.runs)) (length (take m.run_count m.runs)) i j → place (track_of t (take m.run_count m.runs)) i j < 4096
     order_low i j o = let h = place_below _ _ i j o in omega (arith, stored.limits.few_orders)
 
     pub switch_agrees : (s : Switch) (setting : ℕ) → Passed (switch_rows t (register_of t m) s) → Same t (register_of t (switch_memory t m s setting)) (set_switch (register_of t m) s setting)
     switch_agrees (switch.Order i j) setting p =
-        let f : ℕ → ℕ = track_of_lem t (take m.run_count m.runs) in
+        let f : ℕ → ℕ = track_of t (take m.run_count m.runs) in
         let o : Ordered f (length (take m.run_count m.runs)) i j = order_passed t (register_of t m) i j p in
         let low = order_low i j o in
         record {
@@ -158,28 +158,28 @@ module _ {K : Type 0} (t : Time K) (m : Memory K) where
       runs_now = take_more_set m.runs m.run_count (unused x) (omega (arith, listed.runs))
 
       -- at the runs as they are entered
-      track_was : (k : ℕ) → k < m.run_count → track_of_lem t (take m.run_count m.runs ++ unused x ∷ []) k ≡ track_of_lem t (take m.run_count m.runs) k
+      track_was : (k : ℕ) → k < m.run_count → track_of t (take m.run_count m.runs ++ unused x ∷ []) k ≡ track_of t (take m.run_count m.runs) k
       track_was k l = let e = long_runs in track_before t (take m.run_count m.runs) (unused x) k (omega arith)
 
-      track_new : track_of_lem t (take m.run_count m.runs ++ unused x ∷ []) m.run_count ≡ x.track
+      track_new : track_of t (take m.run_count m.runs ++ unused x ∷ []) m.run_count ≡ x.track
       track_new = ap (λ (y : Run K). y.track) (get_or_push (take m.run_count m.runs) (unused x) _ m.run_count long_runs)
 
       settings_room : orders_entered t m + orders_added t m x.track ≤ length m.settings
       settings_room = let r = room in omega (arith, listed.settings)
 
       -- the byte of an order of earlier runs is as it was
-      order_was : (i j : ℕ) → i < j → j < m.run_count → track_of_lem t (take m.run_count m.runs) i ≡ track_of_lem t (take m.run_count m.runs) j → get_or (cleared m.settings (orders_entered t m) (orders_added t m x.track)) (place (track_of_lem t (take m.run_count m.runs ++ unused x ∷ [])) i j) 0 ≡ get_or m.settings (place (track_of_lem t (take m.run_count m.runs)) i j) 0
+      order_was : (i j : ℕ) → i < j → j < m.run_count → track_of t (take m.run_count m.runs) i ≡ track_of t (take m.run_count m.runs) j → get_or (cleared m.settings (orders_entered t m) (orders_added t m x.track)) (place (track_of t (take m.run_count m.runs ++ unused x ∷ [])) i j) 0 ≡ get_or m.settings (place (track_of t (take m.run_count m.runs)) i j) 0
       order_was i j b l shared =
-          let same = place_kept (track_of_lem t (take m.run_count m.runs ++ unused x ∷ [])) (track_of_lem t (take m.run_count m.runs)) i j b (λ k h. track_was k (omega arith)) in
-          let low = place_below (track_of_lem t (take m.run_count m.runs)) m.run_count i j (record { below = b; inside = l; shared = shared }) in
+          let same = place_kept (track_of t (take m.run_count m.runs ++ unused x ∷ [])) (track_of t (take m.run_count m.runs)) i j b (λ k h. track_was k (omega arith)) in
+          let low = place_below (track_of t (take m.run_count m.runs)) m.run_count i j (record { below = b; inside = l; shared = shared }) in
           ap (λ (p : ℕ). get_or (cleared m.settings (orders_entered t m) (orders_added t m x.track)) p 0) same ∙ cleared_below m.settings (orders_entered t m) (orders_added t m x.track) settings_room _ low
 
       -- the byte of an order of the new run is cleared
-      order_new : (i : ℕ) → i < m.run_count → track_of_lem t (take m.run_count m.runs ++ unused x ∷ []) i ≡ track_of_lem t (take m.run_count m.runs ++ unused x ∷ []) m.run_count → get_or (cleared m.settings (orders_entered t m) (orders_added t m x.track)) (place (track_of_lem t (take m.run_count m.runs ++ unused x ∷ [])) i m.run_count) 0 ≡ 0
+      order_new : (i : ℕ) → i < m.run_count → track_of t (take m.run_count m.runs ++ unused x ∷ []) i ≡ track_of t (take m.run_count m.runs ++ unused x ∷ []) m.run_count → get_or (cleared m.settings (orders_entered t m) (orders_added t m x.track)) (place (track_of t (take m.run_count m.runs ++ unused x ∷ [])) i m.run_count) 0 ≡ 0
       order_new i b shared =
           let n = m.run_count in
-          let f : ℕ → ℕ = track_of_lem t (take m.run_count m.runs) in
-          let g : ℕ → ℕ = track_of_lem t (take m.run_count m.runs ++ unused x ∷ []) in
+          let f : ℕ → ℕ = track_of t (take m.run_count m.runs) in
+          let g : ℕ → ℕ = track_of t (take m.run_count m.runs ++ unused x ∷ []) in
           let sum : total g n ≡ total f n = total_kept g f n track_was in
           let fewer : earlier g i < earlier g n = count_below g i n b shared in
           let many : earlier g n ≡ count f x.track n = ap (λ (y : ℕ). count g y n) track_new ∙ count_kept g f x.track n track_was in
@@ -190,14 +190,14 @@ module _ {K : Type 0} (t : Time K) (m : Memory K) where
           let n = m.run_count in
           let long = long_runs in
           let bytes : List ℕ = cleared m.settings (orders_entered t m) (orders_added t m x.track) in
-          let O : List (Run K) → Type 0 = λ rs. (i j : ℕ) → Ordered (track_of_lem t rs) (length rs) i j → get_or bytes (place (track_of_lem t rs) i j) 0 ≡ cond (eqb j (length (take n m.runs))) 0 (get_or m.settings (place (track_of_lem t (take n m.runs)) i j) 0) in
+          let O : List (Run K) → Type 0 = λ rs. (i j : ℕ) → Ordered (track_of t rs) (length rs) i j → get_or bytes (place (track_of t rs) i j) 0 ≡ cond (eqb j (length (take n m.runs))) 0 (get_or m.settings (place (track_of t (take n m.runs)) i j) 0) in
           let orders_now : O (take n m.runs ++ unused x ∷ []) = λ i j o.
           (let longer = length_push (take n m.runs) (unused x) in
           let b = o.below in
           let l = o.inside in
           elim (cases_eq j n) [
             | inl e ↦
-                (let g : ℕ → ℕ = track_of_lem t (take n m.runs ++ unused x ∷ []) in
+                (let g : ℕ → ℕ = track_of t (take n m.runs ++ unused x ∷ []) in
                 let P : ℕ → Type 0 = λ k. get_or bytes (place g i k) 0 ≡ 0 in
                 subst P (sym e) (order_new i (omega arith) (o.shared ∙ ap g e)) ∙ sym (cond-true (eqb j (length (take n m.runs))) 0 _ (eq-eqb _ _ (e ∙ sym long))))
             | inr ne ↦

@@ -2,7 +2,7 @@
 use Rattle.std.proofs.Common.{◌≡◌, ℕ, ◌<◌, ◌≤◌, length, sym, refl, ◌∙◌, subst, inl, inr}
 use Rattle.kinds.specs.Time.{Time}
 use Rattle.network.specs.declared.Arc.{Arc}
-use Rattle.records.specs.Records.{track_of_lem}
+use Rattle.records.specs.Records.{track_of}
 use Rattle.records.specs.Places.{Ordered}
 use Rattle.records.specs.Register.{Register}
 use Rattle.records.specs.Stored.{Limits, Drafted}
@@ -16,7 +16,7 @@ use Rattle.registers.proofs.Sames.{with_settings, at_same}
 
 module _ {K : Type 0} (t : Time K) where
   -- settings that agree where there is an order or a connection
-  module _ (R : Register K) (order other : ℕ → ℕ → ℕ) (link linked : ℕ → ℕ) (orders : (i j : ℕ) → Ordered (track_of_lem t R.runs) (length R.runs) i j → order i j ≡ other i j) (links : (c : ℕ) → c < length R.connections → link c ≡ linked c) where
+  module _ (R : Register K) (order other : ℕ → ℕ → ℕ) (link linked : ℕ → ℕ) (orders : (i j : ℕ) → Ordered (track_of t R.runs) (length R.runs) i j → order i j ≡ other i j) (links : (c : ℕ) → c < length R.connections → link c ≡ linked c) where
     ahead_there : (u v : ℕ) → Ahead t (with_settings R order link) u v → Ahead t (with_settings R other linked) u v
     ahead_there u v (inl h) = inl (h.0, sym (orders u v h.0) ∙ h.1)
     ahead_there u v (inr h) = inr (h.0, sym (orders v u h.0) ∙ h.1)

@@ -6,7 +6,7 @@ use Rattle.kinds.specs.Time.{Time}
 use Rattle.records.specs.declared.Track.{Track}
 use Rattle.records.specs.declared.Run.{Run}
 use Rattle.records.specs.declared.Connection.{Connection}
-use Rattle.records.specs.Records.{run_at, track_of_lem}
+use Rattle.records.specs.Records.{run_at, track_of}
 use Rattle.records.specs.Places.{Ordered}
 use Rattle.records.specs.Register.{Register}
 use Rattle.rules.specs.declared.switches.Switch.{Switch}
@@ -18,10 +18,10 @@ use Rattle.registers.proofs.Sames.{same_refl, same_sym, same_trans, at_same}
 
 module _ {K : Type 0} (t : Time K) where
   -- one more run leaves the track of each earlier one
-  pub track_before : (xs : List (Run K)) (x : Run K) (k : ℕ) → k < length xs → track_of_lem t (xs ++ x ∷ []) k ≡ track_of_lem t xs k
+  pub track_before : (xs : List (Run K)) (x : Run K) (k : ℕ) → k < length xs → track_of t (xs ++ x ∷ []) k ≡ track_of t xs k
   track_before xs x k l = ap (λ (y : Run K). y.track) (get_or_append_left xs (x ∷ []) _ k l)
 
-  pub ordered_before : (xs : List (Run K)) (x : Run K) (i j : ℕ) → j < length xs → Ordered (track_of_lem t (xs ++ x ∷ [])) (length (xs ++ x ∷ [])) i j → Ordered (track_of_lem t xs) (length xs) i j
+  pub ordered_before : (xs : List (Run K)) (x : Run K) (i j : ℕ) → j < length xs → Ordered (track_of t (xs ++ x ∷ [])) (length (xs ++ x ∷ [])) i j → Ordered (track_of t xs) (length xs) i j
   ordered_before xs x i j l o =
       let b = o.below in
       record {
@@ -31,19 +31,19 @@ module _ {K : Type 0} (t : Time K) where
       }
 
   -- another run on the same track leaves the track of each
-  pub track_still : (xs : List (Run K)) (r : ℕ) (x : Run K) → x.track ≡ track_of_lem t xs r → (k : ℕ) → track_of_lem t (set xs r x) k ≡ track_of_lem t xs k
+  pub track_still : (xs : List (Run K)) (r : ℕ) (x : Run K) → x.track ≡ track_of t xs r → (k : ℕ) → track_of t (set xs r x) k ≡ track_of t xs k
   track_still xs r x e k =
       elim (cases_eq k r) [
         | inl same ↦
-            (let P : ℕ → Type 0 = λ i. track_of_lem t (set xs r x) i ≡ track_of_lem t xs i in
+            (let P : ℕ → Type 0 = λ i. track_of t (set xs r x) i ≡ track_of t xs i in
             subst P (sym same) (elim (cases_lt r (length xs)) [
               | inl l ↦ ap (λ (y : Run K). y.track) (get_or-set_same xs r x _ l) ∙ e
-              | inr l ↦ ap (λ ys. track_of_lem t ys r) (set_past xs r x l)
+              | inr l ↦ ap (λ ys. track_of t ys r) (set_past xs r x l)
             ]))
         | inr ne ↦ ap (λ (y : Run K). y.track) (get_or-set_other xs r k x _ ne)
       ]
 
-  pub ordered_still : (xs : List (Run K)) (r : ℕ) (x : Run K) → x.track ≡ track_of_lem t xs r → (i j : ℕ) → Ordered (track_of_lem t (set xs r x)) (length (set xs r x)) i j → Ordered (track_of_lem t xs) (length xs) i j
+  pub ordered_still : (xs : List (Run K)) (r : ℕ) (x : Run K) → x.track ≡ track_of t xs r → (i j : ℕ) → Ordered (track_of t (set xs r x)) (length (set xs r x)) i j → Ordered (track_of t xs) (length xs) i j
   ordered_still xs r x e i j o =
       let n = length-set xs r x in
       let l = o.inside in
@@ -110,7 +110,7 @@ module _ {K : Type 0} (t : Time K) where
     }
 
     -- another run on the same track
-    pub with_run_kept : (r : ℕ) (x : Run K) → x.track ≡ track_of_lem t R.runs r → Same t (with_run R r x) (with_run S r x)
+    pub with_run_kept : (r : ℕ) (x : Run K) → x.track ≡ track_of t R.runs r → Same t (with_run R r x) (with_run S r x)
     with_run_kept r x e = record {
       tracks = h.tracks;
       runs = ap (λ xs. set xs r x) h.runs;

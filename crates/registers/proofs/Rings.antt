@@ -9,7 +9,7 @@ use Rattle.network.proofs.Tables.{no_ring}
 use Rattle.records.specs.declared.Track.{Track}
 use Rattle.records.specs.declared.Run.{Run}
 use Rattle.records.specs.declared.Connection.{Connection}
-use Rattle.records.specs.Records.{run_at, track_at, connection_at, track_of_lem}
+use Rattle.records.specs.Records.{run_at, track_at, connection_at, track_of}
 use Rattle.records.specs.Register.{Register}
 use Rattle.records.specs.Stored.{Limits}
 use Rattle.force.specs.Force.{Joins, Running, Dwell, Connects, Departures, Arrivals, Meeting, Ahead, InForce, running, dwell, connection, departures, arrivals, meeting}
@@ -128,15 +128,15 @@ module _ {K : Type 0} (t : Time K) (R : Register K) where
     in_force_was a (departures u v h d) =
         let now : ℕ → Run K = run_at t (set R.runs r x) in
         let P : ℕ → Type 0 = λ n. Departures (track_at t R.tracks n) u (now u) v (now v) a in
-        departures u v (ahead_was u v h) (departures_was (track_at t R.tracks (track_of_lem t R.runs v)) u v _ _ _ _ a (each_later u) (each_later v) (subst P (each_later v).track d))
+        departures u v (ahead_was u v h) (departures_was (track_at t R.tracks (track_of t R.runs v)) u v _ _ _ _ a (each_later u) (each_later v) (subst P (each_later v).track d))
     in_force_was a (arrivals u v h d) =
         let now : ℕ → Run K = run_at t (set R.runs r x) in
         let P : ℕ → Type 0 = λ n. Arrivals (track_at t R.tracks n) u (now u) v (now v) a in
-        arrivals u v (ahead_was u v h) (arrivals_was (track_at t R.tracks (track_of_lem t R.runs v)) u v _ _ _ _ a (each_later u) (each_later v) (subst P (each_later v).track d))
+        arrivals u v (ahead_was u v h) (arrivals_was (track_at t R.tracks (track_of t R.runs v)) u v _ _ _ _ a (each_later u) (each_later v) (subst P (each_later v).track d))
     in_force_was a (meeting u v h d) =
         let now : ℕ → Run K = run_at t (set R.runs r x) in
         let P : ℕ → Type 0 = λ n. Meeting (track_at t R.tracks n) u (now u) v (now v) a in
-        meeting u v (ahead_was u v h) (meeting_was (track_at t R.tracks (track_of_lem t R.runs v)) u v _ _ _ _ a (each_later u) (each_later v) (subst P (each_later v).track d))
+        meeting u v (ahead_was u v h) (meeting_was (track_at t R.tracks (track_of t R.runs v)) u v _ _ _ _ a (each_later u) (each_later v) (subst P (each_later v).track d))
 
     -- so a ring was a ring
     pub ring_was : HasRing t (arcs_in_force t (with_run R r x)) → HasRing t (arcs_in_force t R)

@@ -8,7 +8,7 @@ use Rattle.records.specs.declared.Connection.{Connection}
 use Rattle.records.specs.Register.{Register}
 use Rattle.rules.specs.declared.switches.Switch.{Switch}
 use Rattle.rules.specs.declared.switches.Switch.TheVariants as switch
-use Rattle.rules.specs.Rows.{TooLate, setting_of_lem, track_rows, run_rows, connection_rows, switch_rows, setting_rows, turning_rows, event_rows, report_rows, hold_rows, release_rows}
+use Rattle.rules.specs.Rows.{TooLate, setting_of, track_rows, run_rows, connection_rows, switch_rows, setting_rows, turning_rows, event_rows, report_rows, hold_rows, release_rows}
 use Rattle.rules.proofs.Rows.{order_passed, link_passed}
 use Rattle.plan.specs.Calls.{ring_rows}
 use Rattle.registers.specs.Steps.{Same}
@@ -24,7 +24,7 @@ module _ {K : Type 0} (t : Time K) where
   late_there R S h (switch.Connection c) late = let P : Register K → Type 0 = λ T. TooLate t T (switch.Connection c) in at_same t P R S h late
 
   -- a switch that there is has one setting in both
-  pub setting_same : (R S : Register K) → Same t R S → (s : Switch) → Passed (switch_rows t R s) → setting_of_lem t R s ≡ setting_of_lem t S s
+  pub setting_same : (R S : Register K) → Same t R S → (s : Switch) → Passed (switch_rows t R s) → setting_of t R s ≡ setting_of t S s
   setting_same R S h (switch.Order i j) p = h.orders i j (order_passed t R i j p)
   setting_same R S h (switch.Connection c) p = h.links c (link_passed t R c p)
 

@@ -4,7 +4,7 @@ use Rattle.kinds.specs.Time.{Time}
 use Rattle.records.specs.declared.Track.{Track}
 use Rattle.records.specs.declared.Run.{Run}
 use Rattle.records.specs.declared.Connection.{Connection}
-use Rattle.records.specs.Records.{track_of_lem}
+use Rattle.records.specs.Records.{track_of}
 use Rattle.records.specs.Places.{Ordered}
 use Rattle.records.specs.Register.{Register}
 use Rattle.registers.specs.Steps.{Same}
@@ -19,8 +19,8 @@ module _ {K : Type 0} where
     same_refl R = record { tracks = refl; runs = refl; connections = refl; orders = λ i j o. refl; links = λ c l. refl }
 
     -- of the same runs
-    ordered_at : (xs ys : List (Run K)) (i j : ℕ) → xs ≡ ys → Ordered (track_of_lem t ys) (length ys) i j → Ordered (track_of_lem t xs) (length xs) i j
-    ordered_at xs ys i j e o = let P : List (Run K) → Type 0 = λ zs. Ordered (track_of_lem t zs) (length zs) i j in subst P (sym e) o
+    ordered_at : (xs ys : List (Run K)) (i j : ℕ) → xs ≡ ys → Ordered (track_of t ys) (length ys) i j → Ordered (track_of t xs) (length xs) i j
+    ordered_at xs ys i j e o = let P : List (Run K) → Type 0 = λ zs. Ordered (track_of t zs) (length zs) i j in subst P (sym e) o
 
     inside_at : (xs ys : List (Connection K)) (c : ℕ) → xs ≡ ys → c < length ys → c < length xs
     inside_at xs ys c e l = let P : List (Connection K) → Type 0 = λ zs. c < length zs in subst P (sym e) l

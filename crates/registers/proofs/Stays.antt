@@ -7,7 +7,7 @@ use Rattle.network.specs.Refusals.{Passed}
 use Rattle.records.specs.declared.Track.{Track}
 use Rattle.records.specs.declared.Run.{Run}
 use Rattle.records.specs.declared.Connection.{Connection}
-use Rattle.records.specs.Records.{run_at, connection_at, track_of_lem}
+use Rattle.records.specs.Records.{run_at, connection_at, track_of}
 use Rattle.records.specs.Places.{count, total}
 use Rattle.records.specs.Register.{Register}
 use Rattle.records.specs.Stored.{Limits, Drafted, Unused, TrackStored, RunStored, ConnectionStored, ConnectionsStored}
@@ -78,14 +78,14 @@ module _ {K : Type 0} (t : Time K) where
 
     -- one run more
     module _ (x : Run K) where
-      track_new : track_of_lem t (R.runs ++ unused x ∷ []) (length R.runs) ≡ x.track
+      track_new : track_of t (R.runs ++ unused x ∷ []) (length R.runs) ≡ x.track
       track_new = ap (λ (y : Run K). y.track) (get_or_push R.runs (unused x) _ (length R.runs) refl)
 
-      pub orders_more : total (track_of_lem t (R.runs ++ unused x ∷ [])) (length (R.runs ++ unused x ∷ [])) ≡ orders_with t R x.track
+      pub orders_more : total (track_of t (R.runs ++ unused x ∷ [])) (length (R.runs ++ unused x ∷ [])) ≡ orders_with t R x.track
       orders_more =
           let n = length R.runs in
-          let f : ℕ → ℕ = track_of_lem t R.runs in
-          let g : ℕ → ℕ = track_of_lem t (R.runs ++ unused x ∷ []) in
+          let f : ℕ → ℕ = track_of t R.runs in
+          let g : ℕ → ℕ = track_of t (R.runs ++ unused x ∷ []) in
           let same : (k : ℕ) → k < n → g k ≡ f k = track_before t R.runs (unused x) in
           let long : total g (length (R.runs ++ unused x ∷ [])) ≡ total g (n + 1) = ap (total g) (length_push R.runs (unused x)) in
           let a = total_more g n in
@@ -168,11 +168,11 @@ module _ {K : Type 0} (t : Time K) where
         }
 
     -- another run on the same track
-    pub with_run_limits : (r : ℕ) (x : Run K) → r < length R.runs → x.track ≡ track_of_lem t R.runs r → RunStored t (length R.tracks) r x → Limits t (with_run R r x)
+    pub with_run_limits : (r : ℕ) (x : Run K) → r < length R.runs → x.track ≡ track_of t R.runs r → RunStored t (length R.tracks) r x → Limits t (with_run R r x)
     with_run_limits r x inside e good =
         let n = length-set R.runs r x in
-        let f : ℕ → ℕ = track_of_lem t R.runs in
-        let g : ℕ → ℕ = track_of_lem t (set R.runs r x) in
+        let f : ℕ → ℕ = track_of t R.runs in
+        let g : ℕ → ℕ = track_of t (set R.runs r x) in
         let here : run_at t (set R.runs r x) r ≡ x = get_or-set_same R.runs r x _ inside in
         let there : (k : ℕ) → (k ≡ r → ⊥) → run_at t (set R.runs r x) k ≡ run_at t R.runs k = λ k ne. get_or-set_other R.runs r k x _ ne in
         let P : ℕ → Run K → Type 0 = RunStored t (length R.tracks) in

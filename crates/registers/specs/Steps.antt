@@ -4,7 +4,7 @@ use Rattle.kinds.specs.Time.{Time}
 use Rattle.records.specs.declared.Track.{Track}
 use Rattle.records.specs.declared.Run.{Run}
 use Rattle.records.specs.declared.Connection.{Connection}
-use Rattle.records.specs.Records.{run_at, track_of_lem}
+use Rattle.records.specs.Records.{run_at, track_of}
 use Rattle.records.specs.Places.{Ordered}
 use Rattle.records.specs.Register.{Register}
 use Rattle.rules.specs.declared.switches.Switch.{Switch}
@@ -87,5 +87,5 @@ module _ {K : Type 0} where
       pub tracks : R.tracks ≡ S.tracks
       pub runs : R.runs ≡ S.runs
       pub connections : R.connections ≡ S.connections
-      pub orders : (i j : ℕ) → Ordered (track_of_lem t R.runs) (length R.runs) i j → R.order i j ≡ S.order i j
+      pub orders : (i j : ℕ) → Ordered (track_of t R.runs) (length R.runs) i j → R.order i j ≡ S.order i j
       pub links : (c : ℕ) → c < length R.connections → R.link c ≡ S.link c

@@ -6,7 +6,7 @@ use Rattle.network.specs.Refusals.{Row, Passed}
 use Rattle.records.specs.declared.Track.{Track}
 use Rattle.records.specs.declared.Run.{Run}
 use Rattle.records.specs.declared.Connection.{Connection}
-use Rattle.records.specs.Records.{run_at, track_of_lem}
+use Rattle.records.specs.Records.{run_at, track_of}
 use Rattle.records.specs.Places.{Ordered}
 use Rattle.records.specs.Register.{Register}
 use Rattle.records.specs.Stored.{Sized, Duration, TrackStored, Linked, Scheduled, ConnectionStored, Limits}
@@ -78,7 +78,7 @@ module _ {K : Type 0} (t : Time K) where
   connection_passed R x p = ((omega arith, (omega arith, (p.1.1.0, (omega arith, duration x.time p.1.1.1.0)))), omega arith)
 
   -- naming an order or a connection
-  pub order_passed : (R : Register K) (i j : ℕ) → Passed (switch_rows t R (switch.Order i j)) → Ordered (track_of_lem t R.runs) (length R.runs) i j
+  pub order_passed : (R : Register K) (i j : ℕ) → Passed (switch_rows t R (switch.Order i j)) → Ordered (track_of t R.runs) (length R.runs) i j
   order_passed R i j p = record { below = omega arith; inside = omega arith; shared = same _ _ p.1.1.1.0 }
 
   pub link_passed : (R : Register K) (c : ℕ) → Passed (switch_rows t R (switch.Connection c)) → c < length R.connections
@@ -86,7 +86,7 @@ module _ {K : Type 0} (t : Time K) where
 
   -- the place of a switch's setting is inside
   pub setting_inside : (R : Register K) (s : Switch) → Limits t R → Passed (switch_rows t R s) → setting_place t R s < 4608
-  setting_inside R (switch.Order i j) l p = let h = place_below (track_of_lem t R.runs) (length R.runs) i j (order_passed R i j p) in omega (arith, l.few_orders)
+  setting_inside R (switch.Order i j) l p = let h = place_below (track_of t R.runs) (length R.runs) i j (order_passed R i j p) in omega (arith, l.few_orders)
   setting_inside R (switch.Connection c) l p = omega (arith, l.few_connections)
 
   -- giving a setting

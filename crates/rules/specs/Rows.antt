@@ -6,7 +6,7 @@ use Rattle.network.specs.Refusals.{Row, row}
 use Rattle.records.specs.declared.Track.{Track}
 use Rattle.records.specs.declared.Run.{Run}
 use Rattle.records.specs.declared.Connection.{Connection}
-use Rattle.records.specs.Records.{run_at, connection_at, track_of_lem}
+use Rattle.records.specs.Records.{run_at, connection_at, track_of}
 use Rattle.records.specs.Places.{total, count, place}
 use Rattle.records.specs.Register.{Register, Memory, register_of}
 use Rattle.records.specs.Stored.{Stored, Drafted, Shown}
@@ -78,7 +78,7 @@ module _ {K : Type 0} where
 
     -- how many orders there are with one more run on track x
     abbrev pub orders_with : Register K → ℕ → ℕ
-    orders_with R x = total (track_of_lem t R.runs) (length R.runs) + count (track_of_lem t R.runs) x (length R.runs)
+    orders_with R x = total (track_of t R.runs) (length R.runs) + count (track_of t R.runs) x (length R.runs)
 
     abbrev pub run_rows : Register K → Run K → List Row
     run_rows R x =
@@ -106,13 +106,13 @@ module _ {K : Type 0} where
         row 3 i (length R.runs ≤ i)
         ∷ row 3 j (length R.runs ≤ j)
         ∷ row 3 j (j ≤ i)
-        ∷ row 3 j (track_of_lem t R.runs i ≢ track_of_lem t R.runs j)
+        ∷ row 3 j (track_of t R.runs i ≢ track_of t R.runs j)
         ∷ []
     switch_rows R (switch.Connection c) = row 3 c (length R.connections ≤ c) ∷ []
 
     -- where the setting of a switch has its byte
     abbrev pub setting_place : Register K → Switch → ℕ
-    setting_place R (switch.Order i j) = place (track_of_lem t R.runs) i j
+    setting_place R (switch.Order i j) = place (track_of t R.runs) i j
     setting_place R (switch.Connection c) = 4096 + c
 
     -- that place, which lies within the bytes of the settings
@@ -121,13 +121,13 @@ module _ {K : Type 0} where
       pub inside : x < 4608
 
     -- the setting of a switch
-    abbrev pub setting_of_lem : Register K → Switch → ℕ
-    setting_of_lem R (switch.Order i j) = R.order i j
-    setting_of_lem R (switch.Connection c) = R.link c
+    abbrev pub setting_of : Register K → Switch → ℕ
+    setting_of R (switch.Order i j) = R.order i j
+    setting_of R (switch.Connection c) = R.link c
 
     abbrev pub setting_rows : Register K → Switch → ℕ → List Row
     setting_rows R s setting =
-        switch_rows R s ++ row 7 0 (1 < setting) ∷ row 8 0 (setting_of_lem R s ≡ setting) ∷ []
+        switch_rows R s ++ row 7 0 (1 < setting) ∷ row 8 0 (setting_of R s ≡ setting) ∷ []
 
     -- the departure of a run is reported
     abbrev pub Departed : Register K → ℕ → Type 0

@@ -2,7 +2,7 @@
 ghost use Rattle.std.specs.Prelude.{◌≡◌, ◌<◌, ◌≤◌, ◌⊎◌, length, Decides};
 ghost use Rattle.records.specs.Entered.{register_in};
 ghost use Rattle.records.specs.Lent.{lists_in, register_lent};
-ghost use Rattle.records.specs.Records.{track_of_lem};
+ghost use Rattle.records.specs.Records.{track_of};
 ghost use Rattle.records.specs.Places.{count};
 ghost use Rattle.rules.specs.Faults.{PlanAnswers};
 ghost use Rattle.rules.specs.Rows.{track_rows, orders_with, run_rows, connection_rows};
@@ -32,7 +32,7 @@ pub fn check_track<K: Kind>(records: &Records<'_, K>, track: Track<K>) -> Result
 
 // How many of the runs are on the track.
 pub(crate) fn count_on<K: Kind>(runs: &[Run<K>], track: u16) -> usize
-    ensures { result ≡ count (track_of_lem K.Kind.time runs.now) track (length runs.now) }
+    ensures { result ≡ count (track_of K.Kind.time runs.now) track (length runs.now) }
 {
     runs.iter().filter(|run| run.track == track).count()
 }

@@ -3,10 +3,10 @@ ghost use Rattle.std.specs.Prelude.{◌≡◌, ◌<◌, length, Decides, IfOk};
 ghost use Rattle.network.specs.Refusals.{Passed};
 ghost use Rattle.records.specs.Entered.{register_in};
 ghost use Rattle.records.specs.Lent.{lists_in, register_lent};
-ghost use Rattle.records.specs.Records.{track_of_lem};
+ghost use Rattle.records.specs.Records.{track_of};
 ghost use Rattle.records.specs.Places.{place, Ordered};
 ghost use Rattle.rules.specs.Faults.{PlanAnswers};
-ghost use Rattle.rules.specs.Rows.{switch_rows, setting_place, setting_of_lem, setting_rows, TooLate, turning_rows, PlaceOf};
+ghost use Rattle.rules.specs.Rows.{switch_rows, setting_place, setting_of, setting_rows, TooLate, turning_rows, PlaceOf};
 ghost use Rattle.rules.specs.declared.switches.Switch.TheVariants as named;
 
 use crate::entries::count_on;
@@ -47,8 +47,8 @@ pub fn check_switch<K: Kind>(records: &Records<'_, K>, switch: Switch) -> Result
 
 // The place of the setting of the order of the runs `i` and `j`.
 fn order_place<K: Kind>(e: &Entered<'_, K>, i: usize, j: usize) -> usize
-    requires { Ordered (track_of_lem K.Kind.time e.now.runs.now) (length e.now.runs.now) i j }
-    ensures { result ≡ place (track_of_lem K.Kind.time e.now.runs.now) i j }
+    requires { Ordered (track_of K.Kind.time e.now.runs.now) (length e.now.runs.now) i j }
+    ensures { result ≡ place (track_of K.Kind.time e.now.runs.now) i j }
 {
     count_orders(&e.runs[..j]) as usize + count_on(&e.runs[..i], e.run(i).track)
 }
@@ -68,7 +68,7 @@ pub fn find_place<K: Kind>(e: &Entered<'_, K>, switch: Switch) -> Result<usize, 
 /// The setting of an order or a connection, and what asking for it refuses.
 pub fn find_setting<K: Kind>(e: &Entered<'_, K>, switch: Switch) -> Result<u8, PlanFault>
     ensures rows { PlanAnswers (switch_rows K.Kind.time (register_in K.Kind.time e.now) switch) result }
-    ensures setting { IfOk result (λ x. x ≡ setting_of_lem K.Kind.time (register_in K.Kind.time e.now) switch) }
+    ensures setting { IfOk result (λ x. x ≡ setting_of K.Kind.time (register_in K.Kind.time e.now) switch) }
 {
     let place = find_place(e, switch)?;
     Ok(e.settings[place])

@@ -1,6 +1,6 @@
 use Rattle.std.proofs.Common.{◌≡◌, ℕ, length, refl, ◌∙◌, subst, arith}
 use Rattle.records.specs.Places.{Laid, Previous}
-use Rattle.records.specs.Records.{track_of_lem}
+use Rattle.records.specs.Records.{track_of}
 use Rattle.records.proofs.Counts.{turn, laid_more, tally_of, tallied_none, tallied_more}
 use Rattle.records.proofs.places.lay_out.Goals as goal
 
@@ -18,7 +18,7 @@ overflow_add-tally g c = let h = turn g.K.Kind.time c.args.runs.now _ _ c.requir
 
 pub loop-j-preserved : goal.loop-j-preserved
 loop-j-preserved g c =
-    let f = track_of_lem g.K.Kind.time c.args.runs.now in
+    let f = track_of g.K.Kind.time c.args.runs.now in
     let h = turn g.K.Kind.time c.args.runs.now _ _ c.requires.few c.requires.tracks c.loop-j-test.true c.index-runs-j.is in
     let tallied = c.loop-j.invariant.2 in
     let here = tallied.counts _ h.inside in
@@ -31,4 +31,4 @@ loop-j-preserved g c =
 pub returns-clause-laid : goal.returns-clause-laid
 returns-clause-laid g c =
     let e : c.loop-j.j ≡ length c.args.runs.now = omega arith in
-    let P : ℕ → Type 0 = λ n. Laid (track_of_lem g.K.Kind.time c.args.runs.now) n c.loop-j.places in subst P e c.loop-j.invariant.0
+    let P : ℕ → Type 0 = λ n. Laid (track_of g.K.Kind.time c.args.runs.now) n c.loop-j.places in subst P e c.loop-j.invariant.0

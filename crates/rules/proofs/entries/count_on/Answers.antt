@@ -7,7 +7,7 @@ use Rattle.std.proofs.lemmas.List.Sums.{length-filter, count_by_more_yes, count_
 use Rattle.kinds.specs.Time.{Time}
 use Rattle.records.specs.declared.Run.{Run}
 use Rattle.records.specs.Places.{count}
-use Rattle.records.specs.Records.{track_of_lem}
+use Rattle.records.specs.Records.{track_of}
 use Rattle.records.proofs.Counts.{count_hit, count_miss}
 use Rattle.rules.proofs.entries.count_on.Goals as goal
 
@@ -15,11 +15,11 @@ use Rattle.rules.proofs.entries.count_on.Goals as goal
 abbrev is_on : {K : Type 0} → ℕ → Run K → Bool
 is_on x run = run.track == x
 
-counted : {K : Type 0} (t : Time K) (runs : List (Run K)) (x n : ℕ) → n ≤ length runs → count_by (is_on x) (take n runs) ≡ count (track_of_lem t runs) x n
+counted : {K : Type 0} (t : Time K) (runs : List (Run K)) (x n : ℕ) → n ≤ length runs → count_by (is_on x) (take n runs) ≡ count (track_of t runs) x n
 counted t runs x zero l = refl
 counted t runs x (suc n) l =
     let below = counted t runs x n (omega arith) in
-    let f = track_of_lem t runs in
+    let f = track_of t runs in
     let P : ℕ → Type 0 = λ m. count_by (is_on x) (take m runs) ≡ count f x m in
     subst P (add-one n) (elim (cases_eq (f n) x) [
       | inl e ↦ count_by_more_yes (is_on x) runs n _ (omega arith) (eq-eqb (f n) x e) ∙ ap (λ (k : ℕ). k + 1) below ∙ sym (count_hit f x n e)

@@ -1,9 +1,9 @@
 use Rattle.std.proofs.Common.{length, arith}
-use Rattle.records.specs.Records.{track_of_lem}
+use Rattle.records.specs.Records.{track_of}
 use Rattle.records.proofs.Counts.{count_small}
 use Rattle.rules.proofs.entries.too_many.Goals as goal
 
 pub overflow_add-result : goal.overflow_add-result
 overflow_add-result g c =
     let limits = c.args.e.now.limits.limits in
-    let h = count_small (track_of_lem g.K.Kind.time c.args.e.now.runs.now) c.args.track (length c.args.e.now.runs.now) in omega (arith, limits.few_orders, limits.few_runs)
+    let h = count_small (track_of g.K.Kind.time c.args.e.now.runs.now) c.args.track (length c.args.e.now.runs.now) in omega (arith, limits.few_orders, limits.few_runs)

@@ -2,7 +2,7 @@ use Rattle.std.proofs.Common.{◌≡◌, ℕ, ◌+◌, ◌<◌, ◌≤◌, List,
 use Rattle.std.proofs.lemmas.List.{length-take-le, get_or-take}
 use Rattle.kinds.specs.Time.{Time}
 use Rattle.records.specs.declared.Run.{Run}
-use Rattle.records.specs.Records.{track_of_lem}
+use Rattle.records.specs.Records.{track_of}
 use Rattle.records.specs.Places.{count, total, place}
 use Rattle.records.proofs.Counts.{count_kept, total_kept, place_below}
 use Rattle.rules.proofs.settings.order_place.Given.{Over}
@@ -10,10 +10,10 @@ use Rattle.rules.proofs.settings.order_place.Goals as goal
 
 module _ {K : Type 0} (t : Time K) (runs : List (Run K)) (n : ℕ) (inside : n ≤ length runs) where
   abbrev f : ℕ → ℕ
-  f = track_of_lem t runs
+  f = track_of t runs
 
   abbrev front : ℕ → ℕ
-  front = track_of_lem t (take n runs)
+  front = track_of t (take n runs)
 
   -- the first n runs are on the tracks that they are on among all
   same : (k : ℕ) → k < n → front k ≡ f k
@@ -26,14 +26,14 @@ module _ {K : Type 0} (t : Time K) (runs : List (Run K)) (n : ℕ) (inside : n �
   count_front x = ap (count front x) (length-take-le n runs inside) ∙ count_kept front f x n same
 
 -- the two parts of the place
-parts : (g : Over) (c : goal.After-count_on g) → c.count_orders.result + c.count_on.result ≡ place (track_of_lem g.K.Kind.time c.args.e.now.runs.now) c.args.i c.args.j
+parts : (g : Over) (c : goal.After-count_on g) → c.count_orders.result + c.count_on.result ≡ place (track_of g.K.Kind.time c.args.e.now.runs.now) c.args.i c.args.j
 parts g c =
     let t = g.K.Kind.time in
     let runs = c.args.e.now.runs.now in
     let a = total_front t runs c.args.j (omega (arith, c.requires.inside)) in
     let b = count_front t runs c.args.i (omega (arith, c.requires.below, c.requires.inside)) c.run.result.track in
-    let on : c.run.result.track ≡ track_of_lem t runs c.args.i = ap (λ r. r.track) c.run.ensures in
-    let e = ap (λ (x : ℕ). count (track_of_lem t runs) x c.args.i) on in
+    let on : c.run.result.track ≡ track_of t runs c.args.i = ap (λ r. r.track) c.run.ensures in
+    let e = ap (λ (x : ℕ). count (track_of t runs) x c.args.i) on in
     omega (arith, c.count_orders.ensures, c.count_on.ensures)
 
 pub overflow_add-result : goal.overflow_add-result

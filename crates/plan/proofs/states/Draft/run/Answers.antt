@@ -1,6 +1,6 @@
 use Rattle.std.proofs.Common.{◌≡◌, ℕ, ◌+◌, ◌-◌, ◌<◌, List, set, sym, refl, ap, ◌∙◌, subst, arith}
 use Rattle.records.specs.declared.Run.{Run}
-use Rattle.records.specs.Records.{track_of_lem}
+use Rattle.records.specs.Records.{track_of}
 use Rattle.records.specs.Lent.{lists_mut}
 use Rattle.plan.specs.States.{memory}
 use Rattle.plan.specs.Steps.{unused, cleared, orders_entered, orders_added}
@@ -20,7 +20,7 @@ orders_below-first-requires-clause-tracks g c =
     let t = g.K.Kind.time in
     let a = c.args in
     let n = a.self.now.numbers in
-    subst (λ (xs : List (Run g.row.K.Denot)). (k : ℕ) → k < n.runs → track_of_lem t xs k < 64) (sym (ap (λ x. x.runs) c.lent.ensures)) (on_tracks t (memory n (lists_mut a.records.now)) c.in_ok-admit_run.ensures.room.0)
+    subst (λ (xs : List (Run g.row.K.Denot)). (k : ℕ) → k < n.runs → track_of t xs k < 64) (sym (ap (λ x. x.runs) c.lent.ensures)) (on_tracks t (memory n (lists_mut a.records.now)) c.in_ok-admit_run.ensures.room.0)
 
 pub orders_below-requires-clause-tracks : goal.orders_below-requires-clause-tracks
 orders_below-requires-clause-tracks g c =
@@ -28,7 +28,7 @@ orders_below-requires-clause-tracks g c =
     let a = c.args in
     let n = a.self.now.numbers in
     let room = c.in_ok-admit_run.ensures.room in
-    subst (λ (xs : List (Run g.row.K.Denot)). (k : ℕ) → k < n.runs + 1 → track_of_lem t xs k < 64) (sym (ap (λ x. x.runs) c.lent-2.ensures ∙ c.put.ensures)) (on_tracks_more t (memory n (lists_mut a.records.now)) room.0 (unused a.run) room.1.0 room.1.1.0)
+    subst (λ (xs : List (Run g.row.K.Denot)). (k : ℕ) → k < n.runs + 1 → track_of t xs k < 64) (sym (ap (λ x. x.runs) c.lent-2.ensures ∙ c.put.ensures)) (on_tracks_more t (memory n (lists_mut a.records.now)) room.0 (unused a.run) room.1.0 room.1.1.0)
 
 parts : (g : Over) (c : After-orders_below g) → (c.orders_below-first.result ≡ orders_entered g.K.Kind.time (memory c.args.self.now.numbers (lists_mut c.args.records.now))) × (c.orders_below.result ≡ orders_entered g.K.Kind.time (memory c.args.self.now.numbers (lists_mut c.args.records.now)) + orders_added g.K.Kind.time (memory c.args.self.now.numbers (lists_mut c.args.records.now)) c.args.run.track)
 parts g c =

@@ -1,6 +1,6 @@
 use Rattle.records.specs.Lent.{lists_in}
 use Rattle.records.specs.Register.{Register, register_of}
-use Rattle.rules.specs.Rows.{open_rows, switch_rows, setting_of_lem}
+use Rattle.rules.specs.Rows.{open_rows, switch_rows, setting_of}
 use Rattle.plan.specs.States.{memory}
 use Rattle.plan.proofs.Told.{left_front, told_behind, value_of}
 use Rattle.plan.proofs.states.Open.setting.Goals as goal
@@ -21,5 +21,5 @@ returns g c =
     let found = c.find_setting.ensures in
     record {
       rows = told_behind (λ (R : Register g.row.K.Denot). switch_rows t R a.switch) _ _ known.sound.0.register (open_rows t m a.times.now) c.find_setting.result known.rows found.rows;
-      value = value_of (λ (R : Register g.row.K.Denot). setting_of_lem t R a.switch) _ _ known.sound.0.register c.find_setting.result found.setting;
+      value = value_of (λ (R : Register g.row.K.Denot). setting_of t R a.switch) _ _ known.sound.0.register c.find_setting.result found.setting;
     }
