@@ -32,18 +32,19 @@ def items_of_code(name, text):
     """Public functions with their clauses, and public types, by name."""
     crate = name.split("/")[1]
     lines = text.split("\n")
-    inside = ""
+    inside, shared = "", False
     i = 0
     while i < len(lines):
         line = lines[i]
         head = re.match(r"(pub )?(impl|trait)\b(.*)\{$", line)
         if head:
-            inside = re.sub(r"<[^>]*>", "", head.group(3)).strip().split(" for ")[-1].split(":")[0].strip()
+            words = re.sub(r"<[^>]*>", "", head.group(3)).strip()
+            shared = head.group(2) == "trait" or " for " in words
+            inside = words.split(" for ")[-1].split(":")[0].strip()
         elif line == "}":
-            inside = ""
+            inside, shared = "", False
         made = re.match(r"(    )?(pub )?fn (\w+)", line)
-        in_trait = inside and re.match(r"    fn (\w+)", line)
-        if made and (made.group(2) or in_trait):
+        if made and (made.group(2) or shared):
             block = []
             while i < len(lines):
                 if lines[i].strip() == "{":

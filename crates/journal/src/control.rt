@@ -65,6 +65,7 @@ fn open_release<K: Kind>(
         Ok(()) => Ok(Answer::Done),
         Err(Unreleased { slip, fault }) => {
             put_slip(slips, run, slip);
+            // Stays without `?`: the fault comes with the slip.
             Err(CallFault::Plan(fault))
         }
     }

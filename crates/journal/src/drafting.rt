@@ -58,6 +58,7 @@ pub(crate) fn open_draft<K: Kind>(
     let work = &mut memories.work;
     match draft.open(memories.records.lent(), times, ring, work) {
         Ok(open) => (Plan::Open(open), Ok(Answer::Done)),
+        // Stays without `?`: the fault comes with the draft.
         Err(Unopened { draft, fault }) => (Plan::Draft(draft), Err(CallFault::Plan(fault))),
     }
 }

@@ -50,6 +50,7 @@ pub(crate) fn lay_out<K: Kind>(runs: &[Run<K>], places: &mut [Place]) -> u32
 }
 
 /// How many orders the runs have.
+// Stays beside `lay_out`: it is asked where there is no memory for places.
 pub fn count_orders<K: Kind>(runs: &[Run<K>]) -> u32
     requires few { length runs.now ≤ 512 }
     requires tracks { OnTracks K.Kind.time runs.now }
