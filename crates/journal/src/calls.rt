@@ -36,7 +36,7 @@ pub enum Answer<K> {
 }
 
 /// Why a call of a list was not taken.
-#[derive(Clone, Copy)]
+#[derive(Clone, Copy, Debug, PartialEq, Eq)]
 pub enum CallFault {
     /// The plan's state does not have the call, or there is no slip at hand.
     Misuse,

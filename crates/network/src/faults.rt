@@ -11,7 +11,7 @@ pub enum Layer {
 }
 
 /// Why a network was not reckoned.
-#[derive(Clone, Copy)]
+#[derive(Clone, Copy, Debug, PartialEq, Eq)]
 pub enum NetworkFault {
     /// A memory has another length than listed.
     Length,

@@ -6,7 +6,7 @@ ghost use Rattle.rules.specs.declared.faults.PlanFault.TheVariants.{Network};
 use network::{Layer, NetworkFault};
 
 /// Why a call on a plan was not taken.
-#[derive(Clone, Copy)]
+#[derive(Clone, Copy, Debug, PartialEq, Eq)]
 pub enum PlanFault {
     /// A memory has another length than listed.
     Length,
