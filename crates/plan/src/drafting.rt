@@ -62,7 +62,7 @@ pub(crate) fn admit_run<K: Kind>(
     ensures room { let m = memory numbers (lists_mut records.now) in OnOk result (SoundDraft K.Kind.time m × ((numbers.runs < 512) × ((run.track < 64) × (orders_entered K.Kind.time m + orders_added K.Kind.time m run.track ≤ 4096)))) }
 {
     let e = admit_lent(numbers, records)?;
-    check_run(&e, run)
+    check_run(&e.records(), run)
 }
 
 /// What entering a connection refuses. Taken, there is room for it.

@@ -1,7 +1,7 @@
 //! The memories of a plan's records and settings, as they are lent to a call.
 ghost use Rattle.std.specs.Prelude.{◌≡◌, ◌<◌, length};
 ghost use Rattle.records.specs.Lent.{lists_in, lists_mut};
-ghost use Rattle.records.specs.Records.{run_at};
+ghost use Rattle.records.specs.Records.{track_at, run_at, connection_at};
 
 use crate::{Connection, Run, Track};
 use kinds::Kind;
@@ -16,12 +16,28 @@ pub struct Records<'m, K> {
 }
 
 impl<K: Kind> Records<'_, K> {
+    /// The track at place `i`.
+    pub fn track(&self, i: usize) -> Track<K>
+        requires { i < length self.now.tracks.now }
+        ensures { result ≡ track_at K.Kind.time self.now.tracks.now i }
+    {
+        self.tracks[i]
+    }
+
     /// The run at place `i`.
     pub fn run(&self, i: usize) -> Run<K>
         requires { i < length self.now.runs.now }
         ensures { result ≡ run_at K.Kind.time self.now.runs.now i }
     {
         self.runs[i]
+    }
+
+    /// The connection at place `i`.
+    pub fn connection(&self, i: usize) -> Connection<K>
+        requires { i < length self.now.connections.now }
+        ensures { result ≡ connection_at K.Kind.time self.now.connections.now i }
+    {
+        self.connections[i]
     }
 }
 

@@ -16,7 +16,7 @@ mod within;
 
 pub use layout::Layout;
 pub use lent::{Records, RecordsMut};
-pub use places::{Place, count_orders};
+pub use places::{Place, count_orders, lay_out};
 pub use stored::{check_drafted, check_shown, check_stored, duration_fits};
 pub use within::Entered;
 

@@ -22,8 +22,8 @@ struct Tally {
     last: Option<u16>,
 }
 
-// Lays out where the settings of the orders lie, and answers how many orders there are.
-pub(crate) fn lay_out<K: Kind>(runs: &[Run<K>], places: &mut [Place]) -> u32
+/// Lays out where the settings of the orders of runs lie, and answers how many orders there are: for each run, what `Place` says.
+pub fn lay_out<K: Kind>(runs: &[Run<K>], places: &mut [Place]) -> u32
     requires few { length runs.now ≤ 512 }
     requires room { length runs.now ≤ length places.old }
     requires tracks { OnTracks K.Kind.time runs.now }

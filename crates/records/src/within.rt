@@ -62,7 +62,7 @@ impl<'v, K: Kind> Entered<'v, K> {
         requires { i < length self.now.tracks.now }
         ensures { result ≡ track_at K.Kind.time self.now.tracks.now i }
     {
-        self.tracks[i]
+        self.records().track(i)
     }
 
     /// The run at place `i`.
@@ -70,7 +70,7 @@ impl<'v, K: Kind> Entered<'v, K> {
         requires { i < length self.now.runs.now }
         ensures { result ≡ run_at K.Kind.time self.now.runs.now i }
     {
-        self.runs[i]
+        self.records().run(i)
     }
 
     /// The connection at place `i`.
@@ -78,7 +78,7 @@ impl<'v, K: Kind> Entered<'v, K> {
         requires { i < length self.now.connections.now }
         ensures { result ≡ connection_at K.Kind.time self.now.connections.now i }
     {
-        self.connections[i]
+        self.records().connection(i)
     }
 
     /// How many events there are: two of each run.

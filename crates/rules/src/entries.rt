@@ -1,16 +1,16 @@
 //! What entering a record refuses.
 ghost use Rattle.std.specs.Prelude.{◌≡◌, ◌<◌, ◌≤◌, ◌⊎◌, length, Decides};
-ghost use Rattle.records.specs.Entered.{register_in};
 ghost use Rattle.records.specs.Lent.{lists_in, register_lent};
 ghost use Rattle.records.specs.Records.{track_of};
 ghost use Rattle.records.specs.Places.{count};
+ghost use Rattle.records.specs.Stored.{Limits};
 ghost use Rattle.rules.specs.Faults.{PlanAnswers};
 ghost use Rattle.rules.specs.Rows.{track_rows, orders_with, run_rows, connection_rows};
 
 use crate::{PlanFault, over};
 use kinds::Kind;
 use records::{
-    CONNECTIONS, Connection, Entered, ORDERS, PENALTY, RUNS, Records, Run, TRACKS, Track, WEIGHT,
+    CONNECTIONS, Connection, ORDERS, PENALTY, RUNS, Records, Run, TRACKS, Track, WEIGHT,
     count_orders, duration_fits,
 };
 
@@ -38,20 +38,26 @@ pub(crate) fn count_on<K: Kind>(runs: &[Run<K>], track: u16) -> usize
 }
 
 // Whether one more run on the track passes the number of runs or of orders.
-fn too_many<K: Kind>(e: &Entered<'_, K>, track: u16) -> bool
-    ensures { Decides result ((512 ≤ length e.now.runs.now) ⊎ (4096 < orders_with K.Kind.time (register_in K.Kind.time e.now) track)) }
+fn too_many<K: Kind>(records: &Records<'_, K>, track: u16) -> bool
+    requires { Limits K.Kind.time (register_lent K.Kind.time (lists_in records.now)) }
+    ensures { Decides result ((512 ≤ length records.now.runs.now) ⊎ (4096 < orders_with K.Kind.time (register_lent K.Kind.time (lists_in records.now)) track)) }
 {
-    e.runs.len() >= RUNS || count_orders(e.runs) as usize + count_on(e.runs, track) > ORDERS
+    records.runs.len() >= RUNS
+        || count_orders(records.runs) as usize + count_on(records.runs, track) > ORDERS
 }
 
-/// What entering a run refuses.
-pub fn check_run<K: Kind>(e: &Entered<'_, K>, run: Run<K>) -> Result<(), PlanFault>
-    ensures { PlanAnswers (run_rows K.Kind.time (register_in K.Kind.time e.now) run) result }
+/// What entering a run refuses, where what is entered keeps the limits.
+pub fn check_run<K: Kind>(records: &Records<'_, K>, run: Run<K>) -> Result<(), PlanFault>
+    requires { Limits K.Kind.time (register_lent K.Kind.time (lists_in records.now)) }
+    ensures { PlanAnswers (run_rows K.Kind.time (register_lent K.Kind.time (lists_in records.now)) run) result }
 {
-    if run.track as usize >= e.tracks.len() {
+    if run.track as usize >= records.tracks.len() {
         return Err(PlanFault::Unknown { place: run.track });
     }
-    if run.predecessor.is_some_and(|p| p as usize >= e.runs.len()) {
+    if run
+        .predecessor
+        .is_some_and(|p| p as usize >= records.runs.len())
+    {
         return Err(PlanFault::Unknown {
             place: run.predecessor.unwrap_or(0),
         });
@@ -62,7 +68,7 @@ pub fn check_run<K: Kind>(e: &Entered<'_, K>, run: Run<K>) -> Result<(), PlanFau
     if !duration_fits(run.running) || !duration_fits(run.dwell) {
         return Err(PlanFault::Duration);
     }
-    if too_many(e, run.track) {
+    if too_many(records, run.track) {
         return Err(PlanFault::Count);
     }
     if run.weight > WEIGHT || run.direction > 1 {

@@ -1,4 +1,6 @@
-use Rattle.records.specs.Lent.{lists_mut}
+use Rattle.std.proofs.Common.{sym, ap, ◌∙◌, subst}
+use Rattle.records.specs.Stored.{Limits}
+use Rattle.records.specs.Lent.{Lists, lists_mut, register_lent}
 use Rattle.records.specs.Register.{Register, register_of}
 use Rattle.rules.specs.Rows.{draft_rows, run_rows}
 use Rattle.plan.specs.States.{memory}
@@ -21,6 +23,11 @@ returns g c =
     let ys = λ (R : Register g.row.K.Denot). run_rows t R a.run in
     let known = c.in_ok-e.ensures in
     record {
-      rows = told_behind ys _ _ known.sound.0.register (draft_rows t m) c.check_run.result known.rows c.check_run.ensures;
-      room = run_room t m known.sound.1 a.run c.check_run.result (told ys _ _ known.sound.0.register c.check_run.result c.check_run.ensures);
+      rows = told_behind ys _ _ (ap (register_lent t) c.records.ensures ∙ known.sound.0.register) (draft_rows t m) c.check_run.result known.rows c.check_run.ensures;
+      room = run_room t m known.sound.1 a.run c.check_run.result (told ys _ _ (ap (register_lent t) c.records.ensures ∙ known.sound.0.register) c.check_run.result c.check_run.ensures);
     }
+
+pub check_run-requires : goal.check_run-requires
+check_run-requires g c =
+    let t = g.K.Kind.time in
+    subst (λ (l : Lists g.row.K.Denot). Limits t (register_lent t l)) (sym c.records.ensures) c.in_ok-e.e.limits.limits
