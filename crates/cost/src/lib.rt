@@ -28,7 +28,7 @@ fn penalty_if(setting: u8, penalty: u32) -> u64
 }
 
 // What the late arrivals cost.
-// Stays: the sums are loops; a chain with `sum` is no plainer, as its bound and its value then want proofs that a loop does not.
+// Stays: tried as a chain with `sum` for the broken connections, which left its bound, its value and its limit to be proved; the loop left nothing.
 fn lateness_cost<K: Kind>(e: &Entered<'_, K>, times: &[K]) -> u64
     requires room { 2 * length e.now.runs.now ≤ length times.now }
     requires shown { Shown K.Kind.time times.now (2 * length e.now.runs.now) }

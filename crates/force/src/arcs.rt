@@ -10,6 +10,7 @@ use network::Arc;
 use records::{Connection, Entered, Layout, Place, Run, Track};
 
 // The arcs listed so far, at the front of a memory.
+// Stays: a lent list with a count, since there is no heap.
 #[derive(Drop)]
 struct ArcList<'a, K> {
     arcs: &'a mut [Arc<K>],

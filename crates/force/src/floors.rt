@@ -30,6 +30,7 @@ pub fn fill_floors<K: Kind>(records: &Records<'_, K>, floors: &mut [K])
     requires { 2 * length records.now.runs.now ≤ length floors.old }
     ensures { Filled K.Kind.time (register_lent K.Kind.time (lists_in records.now)) floors.new }
 {
+    // Stays: nothing is known of what chunks of lent floors were written, so pairs by `chunks_mut` are not proved.
     for (r, run) in records.runs.iter().enumerate() {
         floors[2 * r] = departure_floor(*run);
         floors[2 * r + 1] = arrival_floor(*run);

@@ -8,7 +8,7 @@ use records::Place;
 
 /// The working memory of a reckoning, lent: 512 places of orders, 1,024 floors, 9,728 arcs, 2,048 times of two tables, and
 /// 1,050,624 marks. What it holds is of no account, before a call or after it.
-// Stays without the times and the ring: of these each call says what they hold, and a trial is lent others.
+// Stays without the times and the ring: they are what a call answers with, and no working memory; a trial is lent other times.
 #[derive(Drop)]
 pub struct Work<'w, K> {
     pub places: &'w mut [Place],

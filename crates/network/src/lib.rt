@@ -25,6 +25,7 @@ pub struct Arc<K> {
 }
 
 /// A network as it is listed in memory: its floors are the first `events` of `floors`, and its arcs the first `arc_count` of `arcs`.
+// Stays: counts beside lists, since a count may pass its memory, and is then refused.
 #[derive(Clone, Copy)]
 pub struct Listing<'n, K> {
     pub events: usize,
@@ -132,7 +133,7 @@ fn settle<K: Kind>(
 {
     let n = kept.floors.len();
     times.copy_from_slice(kept.floors);
-    // Stays: rows in chunks of `n` would need a case of their own for a network with no event.
+    // Stays: nothing is known of what chunks of lent rows were written, so rows by `chunks_mut` are not proved.
     for k in 0..n {
         let start = k * n;
         let row = &mut rows[start..start + n];

@@ -35,11 +35,6 @@ pub sound_of : {M X E : Type 0} (P : M → X → Type 0) (Q : M → Type 0) (m n
 sound_of P Q m n is (Ok x) p q = (subst (λ z. P z x) is p, subst Q is q)
 sound_of P Q m n is (Err e) p q = tt
 
--- what is answered of a register is that of an equal one
-pub value_of : {M X E : Type 0} (f : M → X) (m n : M) → m ≡ n → (r : Result X E) → IfOk r (λ x. x ≡ f m) → IfOk r (λ x. x ≡ f n)
-value_of f m n is (Ok x) h = h ∙ ap f is
-value_of f m n is (Err e) h = tt
-
 -- the fault of a part is handed on as the call's
 abbrev pub Left : {X : Type 0} → PlanFault → Result X PlanFault → Type 0
 Left f r = IsErrAnd r (λ e. e ≡ f)

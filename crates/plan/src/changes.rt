@@ -35,7 +35,7 @@ pub(crate) fn put_in_force<K: Kind>(
 }
 
 /// Puts a record in the place of another.
-// Stays: beside all that its callers know, the bound of a plain index is not found.
+// Stays: tried as a plain index, and beside all that its callers know the proof of its bound didn't close.
 pub(crate) fn put<T: Copy>(items: &mut [T], i: usize, item: T)
     requires { i < length items.old }
     ensures { items.new ≡ slice_set items.old i item }

@@ -111,7 +111,7 @@ impl Open {
     }
 
     /// Keeps or breaks a connection, and reckons.
-    // Stays beside `order`: a controller has two calls, and `turn` is what both do.
+    // Stays beside `order`: the interface has two calls for two things, and `turn` is what both do.
     pub fn connect<K: Kind>(
         &self,
         records: &mut RecordsMut<'_, K>,

@@ -136,6 +136,6 @@ impl Draft {
         ensures reads { IfOk result (λ s. s ≡ setting_of K.Kind.time (register_of K.Kind.time (memory self.now.numbers (lists_in records.entry))) switch) }
     {
         let e = admit(self.numbers, records)?;
-        find_setting(&e, switch)
+        Ok(find_setting(&e, switch)?)
     }
 }

@@ -42,7 +42,7 @@ impl Open {
         ensures value { IfOk result (λ x. x ≡ setting_of K.Kind.time (register_of K.Kind.time (memory self.now.numbers (lists_in records.entry))) switch) }
     {
         let e = admit_shown(self.numbers, records, times)?;
-        find_setting(&e, switch)
+        Ok(find_setting(&e, switch)?)
     }
 
     /// The delay cost of the times shown.

@@ -9,6 +9,7 @@ use records::{Records, View};
 use rules::PlanFault;
 
 /// A plan's number, and how many records of each list are entered.
+// Stays: counts apart from the lists, since a plan is plain numbers, and its memory is lent to each call.
 #[derive(Clone, Copy)]
 pub(crate) struct Numbers {
     pub(crate) number: u32,

@@ -51,7 +51,7 @@ impl Drop for Switched<'_> {
 }
 
 // Reckons with one setting changed, into trial memory, and counts the cost. The setting is back on every way out.
-// Stays: each list is lent by itself, since no proof is found where one lent struct's fields are lent to be read and to be written.
+// Stays: each list is lent by itself; tried with one lent struct, and where its fields are lent to be read and to be written the proof didn't close.
 fn try_setting<K: Kind>(
     numbers: Numbers,
     tracks: &mut [Track<K>],

@@ -160,6 +160,7 @@ fn run(rt: &HostRuntime) -> anyhow::Result<()> {
     }
     let heap = rt.alloc();
     let mut chosen = None;
+    // Stays: no plainer as a zipped range, whose end would have to be named.
     let mut count = 0u64;
     for bytes in BufReader::new(heap, rt.stdin())?.split(heap, b'\n') {
         let bytes = bytes?;

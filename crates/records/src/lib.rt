@@ -84,6 +84,7 @@ pub struct Connection<K> {
 
 /// The memories of a plan, to be read: records, settings (4,096 bytes of orders, then 512 of connections), and how many records
 /// are entered.
+// Stays: counts beside lists, since a count may pass its memory, and is then refused.
 #[derive(Clone, Copy)]
 pub struct View<'v, K> {
     pub tracks: &'v [Track<K>],

@@ -8,6 +8,7 @@ use kinds::Kind;
 
 /// What is laid out for a run: how many earlier runs are on its track, how many orders the runs before it have, and the nearest
 /// earlier run on its track, if there is one.
+// Stays: a run is named by its place, since the runs lie in lent memory, and there is no heap.
 #[derive(Clone, Copy)]
 pub struct Place {
     pub earlier: u16,
@@ -50,7 +51,7 @@ pub fn lay_out<K: Kind>(runs: &[Run<K>], places: &mut [Place]) -> u32
 }
 
 /// How many orders the runs have.
-// Stays beside `lay_out`: it is asked where there is no memory for places.
+// Stays beside `lay_out`: to lay out only to count would write 512 places where 64 numbers do.
 pub fn count_orders<K: Kind>(runs: &[Run<K>]) -> u32
     requires few { length runs.now ≤ 512 }
     requires tracks { OnTracks K.Kind.time runs.now }

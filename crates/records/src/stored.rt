@@ -85,6 +85,7 @@ fn tracks_stored<K: Kind>(tracks: &[Track<K>]) -> bool
 fn runs_stored<K: Kind>(tracks: usize, runs: &[Run<K>]) -> bool
     ensures { Decides result (RunsStored K.Kind.time tracks runs.now) }
 {
+    // Stays: as `enumerate().all(..)` it was tried, and the proof didn't close.
     for (r, run) in runs.iter().enumerate() {
         if !run_stored(tracks, r, *run) {
             return false;

@@ -54,13 +54,11 @@ pub fn check_run<K: Kind>(records: &Records<'_, K>, run: Run<K>) -> Result<(), P
     if run.track as usize >= records.tracks.len() {
         return Err(PlanFault::Unknown { place: run.track });
     }
-    if run
-        .predecessor
-        .is_some_and(|p| p as usize >= records.runs.len())
-    {
-        return Err(PlanFault::Unknown {
-            place: run.predecessor.unwrap_or(0),
-        });
+    match run.predecessor {
+        Some(place) if place as usize >= records.runs.len() => {
+            return Err(PlanFault::Unknown { place });
+        }
+        _ => {}
     }
     if over(run.departure) || over(run.arrival) {
         return Err(PlanFault::Time);
