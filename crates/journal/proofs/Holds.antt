@@ -1,7 +1,7 @@
 -- Holds and releases as steps from books to books: the slip of a held run lies in its slot.
-use Rattle.std.proofs.Common.{◌≡◌, ℕ, zero, suc, ◌<◌, ◌≤◌, true, false, List, [], ◌∷◌, ◌++◌, map, length, get_or, take, set, is_some, Some, None, Ok, Err, Option, sym, refl, ap, ◌∙◌, subst, inl, inr, arith, length-set, set-set}
+use Rattle.std.proofs.Common.{◌≡◌, ℕ, zero, suc, ◌<◌, ◌≤◌, true, false, List, [], ◌∷◌, ◌++◌, map, length, get_or, set, is_some, Some, None, Ok, Err, Option, sym, refl, ap, ◌∙◌, subst, inl, inr, arith, length-set, set-set}
 use Rattle.std.proofs.lemmas.Bool.{false≢true, cases_eq}
-use Rattle.std.proofs.lemmas.List.{length-take, get_or-set_same, get_or-set_other, map-set}
+use Rattle.std.proofs.lemmas.List.{get_or-set_same, get_or-set_other, map-set}
 use lib.Seq.{set-get_or}
 use Rattle.kinds.specs.Time.{Time, Laws}
 use Rattle.network.specs.Network.{Least}
@@ -68,19 +68,10 @@ pub none_of : {X : Type 0} (o : Option X) → is_some o ≡ false → o ≡ None
 none_of None e = refl
 none_of (Some x) e = absurd (false≢true (sym e))
 
--- a run that is entered has a slot
-pub kept_inside : {X : Type 0} (n : ℕ) (xs : List X) (r slots : ℕ) → r < length (take n xs) → length xs ≡ 512 → slots ≡ 512 → r < slots
-kept_inside n xs r slots h e f = let z = length-take n xs in omega (arith, z)
-
 pub slot_inside : {X : Type 0} (xs : List (Option X)) (i : ℕ) (x : X) → get_or xs i None ≡ Some x → i < length xs
 slot_inside [] i x e = absurd (none_some e)
 slot_inside (y ∷ ys) zero x e = omega arith
 slot_inside (y ∷ ys) (suc i) x e = let h = slot_inside ys i x e in omega arith
-
-pub emptied : {X : Type 0} (xs : List (Option X)) (i : ℕ) → get_or xs i None ≡ None → set xs i None ≡ xs
-emptied [] i e = refl
-emptied (x ∷ xs) zero e = ap (λ y. y ∷ xs) (sym e)
-emptied (x ∷ xs) (suc i) e = ap (λ ys. x ∷ ys) (emptied xs i e)
 
 module _ {K : Type 0} (t : Time K) (laws : Laws t) (o : Open) (m : Memories K) (listed : AllListed (sizes m)) (B : Books K) (st : Stands t B (state (stage.Open o) m)) (ring : List ℕ) (trial : List K) where
   abbrev before : Memory K
@@ -253,17 +244,6 @@ module _ {K : Type 0} (t : Time K) (laws : Laws t) (o : Open) (m : Memories K) (
             record { answers = first_on _ _ res.0; carried = tt; named = res.1 },
             subst (Stands t B) (same_state refl (sym e) (sym k.shows) (sym back)) st,
           )
-
-  -- no slip at hand
-  pub release_misused : (r : ℕ) (slips' : List (Option Slip)) → get_or m.slips.now r None ≡ None → slips' ≡ set m.slips.now r None → Told t (sizes m) B (call.Release r) (Err fault.Misuse) ring trial × Stands t B (state_of (stage.Open o) (lists_mut m.records) m.times.now slips')
-  release_misused r slips' e left = (
-    record {
-      answers = inr ((λ c. false≢true (sym c ∙ yes_open)), inl (ap (λ bs. get_or bs r false) (sym st.slips) ∙ get_or_map m.slips.now r ∙ ap is_some e, refl, refl));
-      carried = tt;
-      named = tt;
-    },
-    subst (Stands t B) (same_state refl refl refl (sym (left ∙ emptied m.slips.now r e))) st,
-  )
 
   -- a run whose slip is kept is held already
   pub hold_again : (r : ℕ) (until : K) → is_some (get_or m.slips.now r None) ≡ true → (Over t until → ⊥) → Told t (sizes m) B (call.Hold r until) (Err (fault.Plan refused.Already)) ring trial

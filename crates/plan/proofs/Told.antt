@@ -46,10 +46,6 @@ module _ {X : Type 0} (f : PlanFault) (r : Result X PlanFault) (e : Left f r) wh
   pub left_answers : (rows : List Row) → First rows (plan_number f) (plan_place f) → Answers plan_number plan_place rows r
   left_answers rows h = left (Answers plan_number plan_place rows) f r e h
 
-  -- by rows that are told of what is equal
-  pub left_rows : {M : Type 0} (ys : M → List Row) (m n : M) → m ≡ n → First (ys m) (plan_number f) (plan_place f) → Answers plan_number plan_place (ys n) r
-  left_rows {M = M} ys m n is h = left_answers (ys n) (subst (λ (x : M). First (ys x) (plan_number f) (plan_place f)) is h)
-
   -- by the rows in front
   pub left_front : (xs ys : List Row) → First xs (plan_number f) (plan_place f) → Answers plan_number plan_place (xs ++ ys) r
   left_front xs ys h = left_answers (xs ++ ys) (first_front xs ys _ _ h)

@@ -13,7 +13,7 @@ use Rattle.records.specs.Stored.{Sized, Duration, TrackStored, Linked, Scheduled
 use Rattle.records.proofs.Counts.{place_below}
 use Rattle.rules.specs.declared.switches.Switch.{Switch}
 use Rattle.rules.specs.declared.switches.Switch.TheVariants as switch
-use Rattle.rules.specs.Rows.{Given, NotEarlier, NoDuration, track_rows, orders_with, run_rows, connection_rows, switch_rows, setting_place, setting_rows, turning_rows, event_rows, report_rows, hold_rows, release_rows}
+use Rattle.rules.specs.Rows.{Given, NotEarlier, NoDuration, track_rows, orders_with, run_rows, connection_rows, switch_rows, setting_place, setting_rows, turning_rows, report_rows, hold_rows, release_rows}
 
 -- of more rows that do not apply the first do not
 pub passed_front : (xs ys : List Row) → Passed (xs ++ ys) → Passed xs
@@ -99,10 +99,6 @@ module _ {K : Type 0} (t : Time K) where
   -- turning a switch
   pub turning_set : (R : Register K) (s : Switch) (v : ℕ) → Passed (turning_rows t R s v) → Passed (setting_rows t R s v)
   turning_set R s v p = passed_front (setting_rows t R s v) _ p
-
-  -- events, reports and holds
-  pub event_passed : (R : Register K) (v : ℕ) → Passed (event_rows t R v) → v < 2 * length R.runs
-  event_passed R v p = omega arith
 
   pub record ReportPassed (R : Register K) (v : ℕ) (at : K) : Type 0 where
     pub known : v < 2 * length R.runs
