@@ -14,17 +14,11 @@ use kinds::Kind;
 use plan::Slip;
 use rules::PlanFault;
 
-// Whether a plan is open.
-fn opened(plan: &Plan) -> bool
-    ensures { result ≡ opened_in plan.now }
-{
-    matches!(plan, Plan::Open(_))
-}
-
 // Whether the plan's state does not have the call, or there is no slip at hand.
-fn misused<K: Kind>(is_open: bool, slips: &[Option<Slip>], call: Call<K>) -> bool
-    ensures { (l : Sizes) (B : Books K) → is_open ≡ B.opened → map is_some slips.now ≡ B.slips → (AllListed l → ⊥) → (result ≡ true → First (call_rows K.Kind.time l B call) 0 0) × (result ≡ false → First (call_rows K.Kind.time l B call) 1 0) }
+fn misused<K: Kind>(plan: &Plan, slips: &[Option<Slip>], call: Call<K>) -> bool
+    ensures { (l : Sizes) (B : Books K) → opened_in plan.now ≡ B.opened → map is_some slips.now ≡ B.slips → (AllListed l → ⊥) → (result ≡ true → First (call_rows K.Kind.time l B call) 0 0) × (result ≡ false → First (call_rows K.Kind.time l B call) 1 0) }
 {
+    let is_open = matches!(plan, Plan::Open(_));
     match call {
         Call::Track { .. }
         | Call::Run { .. }
@@ -54,7 +48,7 @@ pub fn perform<K: Kind>(
     if !memories.is_listed() {
         // Lent by itself, so that what it holds stays known.
         let slips = &mut *memories.slips;
-        if misused(opened(&plan), slips, call) {
+        if misused(&plan, slips, call) {
             return (plan, Err(CallFault::Misuse));
         }
         return (plan, Err(CallFault::Plan(PlanFault::Length)));
