@@ -8,7 +8,7 @@ use crate::slips::{kept_slip, pick_slip, put_slip};
 use crate::{Answer, Call, CallFault, Memories};
 use kinds::Kind;
 use plan::{Open, Unreleased};
-use rules::{PlanFault, Switch, TIME_SIZE};
+use rules::{PlanFault, TIME_SIZE};
 
 // Holds a run; its slip goes into its slot.
 fn open_hold<K: Kind>(
@@ -93,31 +93,17 @@ pub(crate) fn in_open<K: Kind>(
             )?;
             Ok(Answer::Done)
         }
-        Call::Turn { switch, setting } => match switch {
-            Switch::Order { i, j } => {
-                plan.order(
-                    &mut memories.records,
-                    memories.times,
-                    memories.ring,
-                    &mut memories.work,
-                    i,
-                    j,
-                    setting,
-                )?;
-                Ok(Answer::Done)
-            }
-            Switch::Connection { c } => {
-                plan.connect(
-                    &mut memories.records,
-                    memories.times,
-                    memories.ring,
-                    &mut memories.work,
-                    c,
-                    setting,
-                )?;
-                Ok(Answer::Done)
-            }
-        },
+        Call::Turn { switch, setting } => {
+            plan.turn(
+                &mut memories.records,
+                memories.times,
+                memories.ring,
+                &mut memories.work,
+                switch,
+                setting,
+            )?;
+            Ok(Answer::Done)
+        }
         Call::Hold { run, until } => open_hold(plan, memories, run, until),
         Call::Release { run } => open_release(plan, memories, run),
         Call::Trial { switch, setting } => {

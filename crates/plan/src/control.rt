@@ -62,8 +62,8 @@ impl Open {
         replace_run(self.numbers, records, times, ring, work, r, run)
     }
 
-    // Writes one setting and reckons.
-    fn turn<K: Kind>(
+    /// Gives an order or a connection another setting, and reckons: what `order` and `connect` do, of a switch.
+    pub fn turn<K: Kind>(
         &self,
         records: &mut RecordsMut<'_, K>,
         times: &mut [K],
@@ -111,7 +111,7 @@ impl Open {
     }
 
     /// Keeps or breaks a connection, and reckons.
-    // Stays beside `order`: the interface has two calls for two things, and `turn` is what both do.
+    // Stays beside `order`: the interface has two calls for two things; `turn` is for callers that have a switch.
     pub fn connect<K: Kind>(
         &self,
         records: &mut RecordsMut<'_, K>,

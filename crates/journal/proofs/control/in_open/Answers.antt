@@ -1,7 +1,5 @@
-use Rattle.std.proofs.Common.{refl, sym, ap, ◌∙◌, inl, inr}
+use Rattle.std.proofs.Common.{refl, sym, inl, inr}
 use Rattle.records.specs.Lent.{lists_in, lists_mut}
-use Rattle.rules.specs.declared.switches.Switch.TheVariants as way
-use Rattle.journal.specs.declared.calls.Call.TheVariants as call
 use Rattle.journal.proofs.Controls.{report_step, report_refused, turn_step, turn_refused, trial_step, trial_refused, time_step, time_refused, cost_step, cost_refused, setting_step, setting_refused}
 use Rattle.journal.proofs.States.{stepped, passed_on}
 use Rattle.journal.proofs.control.in_open.Goals as goal
@@ -21,43 +19,22 @@ returns-in_err-report-in-Report-clause-step g c =
     let k = c.in_err-report-in-Report.ensures in
     λ B st. stepped t B c.in-Report.is (passed_on _ f c.from_residual.ensures) (report_refused t g.met.K.Kind.laws c.args.plan.now m c.requires.listed B st c.report.new.ring m.trial.now (lists_mut c.report.new.records) c.report.new.times c.in-Report.event c.in-Report.at f k.reckons k.records)
 
-pub returns-in_ok-order-in-Order-clause-step : goal.returns-in_ok-order-in-Order-clause-step
-returns-in_ok-order-in-Order-clause-step g c =
+pub returns-in_ok-turn-in-Turn-clause-step : goal.returns-in_ok-turn-in-Turn-clause-step
+returns-in_ok-turn-in-Turn-clause-step g c =
     let t = g.K.Kind.time in
     let m = c.args.memories.now in
-    let p = c.in-Order in
-    let setting = c.in-Turn.setting in
-    let k = c.in_ok-order-in-Order.ensures in
-    λ B st. stepped t B (c.in-Turn.is ∙ ap (λ s. call.Turn s setting) p.is) refl (turn_step t g.met.K.Kind.laws c.args.plan.now m c.requires.listed B st c.order.new.ring m.trial.now (lists_mut c.order.new.records) c.order.new.times (way.Order p.i p.j) setting k.reckons k.records)
+    let p = c.in-Turn in
+    let k = c.in_ok-turn-in-Turn.ensures in
+    λ B st. stepped t B p.is refl (turn_step t g.met.K.Kind.laws c.args.plan.now m c.requires.listed B st c.turn.new.ring m.trial.now (lists_mut c.turn.new.records) c.turn.new.times p.switch p.setting k.reckons k.records)
 
-pub returns-in_err-order-in-Order-clause-step : goal.returns-in_err-order-in-Order-clause-step
-returns-in_err-order-in-Order-clause-step g c =
+pub returns-in_err-turn-in-Turn-clause-step : goal.returns-in_err-turn-in-Turn-clause-step
+returns-in_err-turn-in-Turn-clause-step g c =
     let t = g.K.Kind.time in
     let m = c.args.memories.now in
-    let p = c.in-Order in
-    let setting = c.in-Turn.setting in
-    let f = c.in_err-order-in-Order.field-0.0 in
-    let k = c.in_err-order-in-Order.ensures in
-    λ B st. stepped t B (c.in-Turn.is ∙ ap (λ s. call.Turn s setting) p.is) (passed_on _ f c.from_residual-in_err-order-in-Order.ensures) (turn_refused t g.met.K.Kind.laws c.args.plan.now m c.requires.listed B st c.order.new.ring m.trial.now (lists_mut c.order.new.records) c.order.new.times (way.Order p.i p.j) setting f k.reckons k.records)
-
-pub returns-in_ok-connect-in-Connection-clause-step : goal.returns-in_ok-connect-in-Connection-clause-step
-returns-in_ok-connect-in-Connection-clause-step g c =
-    let t = g.K.Kind.time in
-    let m = c.args.memories.now in
-    let p = c.in-Connection in
-    let setting = c.in-Turn.setting in
-    let k = c.in_ok-connect-in-Connection.ensures in
-    λ B st. stepped t B (c.in-Turn.is ∙ ap (λ s. call.Turn s setting) p.is) refl (turn_step t g.met.K.Kind.laws c.args.plan.now m c.requires.listed B st c.connect.new.ring m.trial.now (lists_mut c.connect.new.records) c.connect.new.times (way.Connection p.c) setting k.reckons k.records)
-
-pub returns-in_err-connect-in-Connection-clause-step : goal.returns-in_err-connect-in-Connection-clause-step
-returns-in_err-connect-in-Connection-clause-step g c =
-    let t = g.K.Kind.time in
-    let m = c.args.memories.now in
-    let p = c.in-Connection in
-    let setting = c.in-Turn.setting in
-    let f = c.in_err-connect-in-Connection.field-0.0 in
-    let k = c.in_err-connect-in-Connection.ensures in
-    λ B st. stepped t B (c.in-Turn.is ∙ ap (λ s. call.Turn s setting) p.is) (passed_on _ f c.from_residual-in_err-connect-in-Connection.ensures) (turn_refused t g.met.K.Kind.laws c.args.plan.now m c.requires.listed B st c.connect.new.ring m.trial.now (lists_mut c.connect.new.records) c.connect.new.times (way.Connection p.c) setting f k.reckons k.records)
+    let p = c.in-Turn in
+    let f = c.in_err-turn-in-Turn.field-0.0 in
+    let k = c.in_err-turn-in-Turn.ensures in
+    λ B st. stepped t B p.is (passed_on _ f c.from_residual-in_err-turn-in-Turn.ensures) (turn_refused t g.met.K.Kind.laws c.args.plan.now m c.requires.listed B st c.turn.new.ring m.trial.now (lists_mut c.turn.new.records) c.turn.new.times p.switch p.setting f k.reckons k.records)
 
 pub returns-in-Hold-clause-step : goal.returns-in-Hold-clause-step
 returns-in-Hold-clause-step g c = λ B st. stepped g.K.Kind.time B c.in-Hold.is refl (c.open_hold.ensures.step B st)
