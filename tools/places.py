@@ -29,21 +29,25 @@ ROWS = [
 ]
 
 
-def sources(rev):
-    """The text of each tracked source file."""
+def tracked(rev):
+    """The name and the text of each tracked file of the crates."""
     if rev:
         names = subprocess.run(["git", "ls-tree", "-r", "--name-only", rev, "crates"], capture_output=True, text=True, check=True).stdout.split()
     else:
         names = subprocess.run(["git", "ls-files", "crates"], capture_output=True, text=True, check=True).stdout.split()
     for name in names:
-        kind = name.split("/")[2] if name.count("/") > 2 else ""
-        if kind not in ("src", "specs", "proofs"):
-            continue
         if rev:
-            text = subprocess.run(["git", "show", f"{rev}:{name}"], capture_output=True, text=True, check=True).stdout
+            yield name, subprocess.run(["git", "show", f"{rev}:{name}"], capture_output=True, text=True, check=True).stdout
         else:
-            text = open(name, encoding="utf-8").read()
-        yield kind, name, text
+            yield name, open(name, encoding="utf-8").read()
+
+
+def sources(rev):
+    """The kind, the name and the text of each source, spec and proof."""
+    for name, text in tracked(rev):
+        kind = name.split("/")[2] if name.count("/") > 2 else ""
+        if kind in ("src", "specs", "proofs"):
+            yield kind, name, text
 
 
 def main():
@@ -59,4 +63,5 @@ def main():
     print(f"8  {len(answers):4}  files of answers, {sum(text.count(chr(10)) for text in answers)} lines")
 
 
-main()
+if __name__ == "__main__":
+    main()

@@ -4,22 +4,9 @@ definitions of specs/, old and new.
 python3 tools/side_by_side.py REV
 """
 import re
-import subprocess
 import sys
 
-
-def tracked(rev):
-    """The name and the text of each tracked source and spec file."""
-    if rev:
-        names = subprocess.run(["git", "ls-tree", "-r", "--name-only", rev, "crates"], capture_output=True, text=True, check=True).stdout.split()
-    else:
-        names = subprocess.run(["git", "ls-files", "crates"], capture_output=True, text=True, check=True).stdout.split()
-    for name in names:
-        if re.match(r"crates/\w+/(src/.*\.rt|specs/.*\.antt)$", name):
-            if rev:
-                yield name, subprocess.run(["git", "show", f"{rev}:{name}"], capture_output=True, text=True, check=True).stdout
-            else:
-                yield name, open(name, encoding="utf-8").read()
+from places import tracked
 
 
 def dedent(lines):
@@ -84,6 +71,8 @@ def items_of_specs(name, text):
 def all_items(rev):
     items = {}
     for name, text in tracked(rev):
+        if not re.match(r"crates/\w+/(src/.*\.rt|specs/.*\.antt)$", name):
+            continue
         for key, block in (items_of_code if name.endswith(".rt") else items_of_specs)(name, text):
             items[key] = block
     return items
