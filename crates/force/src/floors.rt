@@ -26,7 +26,7 @@ fn arrival_floor<K: Kind>(run: Run<K>) -> K
 }
 
 /// Writes the floor of each event of the entered runs to the front of `floors`.
-pub fn fill_floors<K: Kind>(records: &Records<'_, K>, floors: &mut [K])
+pub fn fill_floors<K: Kind>(records: &Records<K>, floors: &mut [K])
     requires { 2 * length records.now.runs.now ≤ length floors.old }
     ensures { Filled K.Kind.time (register_lent K.Kind.time (lists_in records.now)) floors.new }
 {

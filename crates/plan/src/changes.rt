@@ -1,24 +1,24 @@
 //! One change to what is stored, and the reckoning of what is then in force.
 ghost use Rattle.std.specs.Prelude.{◌≡◌, ℕ, ◌<◌, [], length, MatchResult, slice_set};
-ghost use Rattle.records.specs.Lent.{lists_in, lists_mut, SameRecords};
+ghost use Rattle.records.specs.Lent.{lists_in};
 ghost use Rattle.records.specs.Register.{register_of};
 ghost use Rattle.records.specs.Stored.{Stored};
 ghost use Rattle.rules.specs.Rows.{RecordsListed};
 ghost use Rattle.force.specs.Work.{work_lengths, SameWork};
-ghost use Rattle.plan.specs.States.{memory};
+ghost use Rattle.plan.specs.States.{memory, lists};
 ghost use Rattle.plan.specs.Steps.{with_runs, with_settings};
 ghost use Rattle.plan.specs.Calls.{Listed, lengths, Reckons};
 
 use crate::states::Numbers;
 use force::{Work, reckon_plan};
 use kinds::Kind;
-use records::{Entered, Records, RecordsMut, Run};
+use records::{Connection, Entered, Records, Run, Track};
 use rules::PlanFault;
 
 /// Reckons what the records put in force.
 pub(crate) fn put_in_force<K: Kind>(
     numbers: Numbers,
-    records: Records<'_, K>,
+    records: Records<K>,
     times: &mut [K],
     ring: &mut [u16],
     work: &mut Work<'_, K>,
@@ -46,29 +46,37 @@ pub(crate) fn put<T: Copy>(items: &mut [T], i: usize, item: T)
 /// Puts a run in the place of another and reckons. Refused, the other is back.
 pub(crate) fn replace_run<K: Kind>(
     numbers: Numbers,
-    records: &mut RecordsMut<'_, K>,
+    tracks: &[Track<K>],
+    runs: &mut [Run<K>],
+    connections: &[Connection<K>],
+    settings: &[u8],
     times: &mut [K],
     ring: &mut [u16],
     work: &mut Work<'_, K>,
     r: usize,
     run: Run<K>,
 ) -> Result<(), PlanFault>
-    requires inside { r < length records.old.runs.now }
-    requires records { RecordsListed (memory numbers (lists_mut records.old)) }
+    requires inside { r < length runs.old }
+    requires records { RecordsListed (memory numbers (lists tracks.now runs.old connections.now settings.now)) }
     requires listed { Listed (lengths (length times.old) (length ring.old) (work_lengths work.old)) }
-    requires stored { Stored K.Kind.time (with_runs (memory numbers (lists_mut records.old)) (slice_set records.old.runs.now r run)) }
-    ensures reckons { Reckons K.Kind.time [] (register_of K.Kind.time (with_runs (memory numbers (lists_mut records.old)) (slice_set records.old.runs.now r run))) times.old times.new ring.old ring.new result }
-    ensures records { MatchResult result (λ _. memory numbers (lists_mut records.new) ≡ with_runs (memory numbers (lists_mut records.old)) (slice_set records.old.runs.now r run)) (λ _. lists_mut records.new ≡ lists_mut records.old) }
-    ensures lent { SameRecords records.old records.new }
+    requires stored { Stored K.Kind.time (with_runs (memory numbers (lists tracks.now runs.old connections.now settings.now)) (slice_set runs.old r run)) }
+    ensures reckons { Reckons K.Kind.time [] (register_of K.Kind.time (with_runs (memory numbers (lists tracks.now runs.old connections.now settings.now)) (slice_set runs.old r run))) times.old times.new ring.old ring.new result }
+    ensures records { MatchResult result (λ _. memory numbers (lists tracks.now runs.new connections.now settings.now) ≡ with_runs (memory numbers (lists tracks.now runs.old connections.now settings.now)) (slice_set runs.old r run)) (λ _. runs.new ≡ runs.old) }
     ensures work { SameWork work.old work.new }
 {
-    let old = records.runs[r];
-    put(records.runs, r, run);
-    match put_in_force(numbers, records.lent(), times, ring, work) {
+    let old = runs[r];
+    put(runs, r, run);
+    let records = Records {
+        tracks,
+        runs: &*runs,
+        connections,
+        settings,
+    };
+    match put_in_force(numbers, records, times, ring, work) {
         Ok(()) => Ok(()),
         Err(fault) => {
             // Stays: put back by hand, since a guard would put a taken run back too.
-            put(records.runs, r, old);
+            put(runs, r, old);
             Err(fault)
         }
     }
@@ -77,29 +85,37 @@ pub(crate) fn replace_run<K: Kind>(
 /// Writes a setting and reckons. Refused, the old one is back.
 pub(crate) fn replace_setting<K: Kind>(
     numbers: Numbers,
-    records: &mut RecordsMut<'_, K>,
+    tracks: &[Track<K>],
+    runs: &[Run<K>],
+    connections: &[Connection<K>],
+    settings: &mut [u8],
     times: &mut [K],
     ring: &mut [u16],
     work: &mut Work<'_, K>,
     place: usize,
     setting: u8,
 ) -> Result<(), PlanFault>
-    requires inside { place < length records.old.settings.now }
-    requires records { RecordsListed (memory numbers (lists_mut records.old)) }
+    requires inside { place < length settings.old }
+    requires records { RecordsListed (memory numbers (lists tracks.now runs.now connections.now settings.old)) }
     requires listed { Listed (lengths (length times.old) (length ring.old) (work_lengths work.old)) }
-    requires stored { Stored K.Kind.time (with_settings (memory numbers (lists_mut records.old)) (slice_set records.old.settings.now place setting)) }
-    ensures reckons { Reckons K.Kind.time [] (register_of K.Kind.time (with_settings (memory numbers (lists_mut records.old)) (slice_set records.old.settings.now place setting))) times.old times.new ring.old ring.new result }
-    ensures records { MatchResult result (λ _. memory numbers (lists_mut records.new) ≡ with_settings (memory numbers (lists_mut records.old)) (slice_set records.old.settings.now place setting)) (λ _. lists_mut records.new ≡ lists_mut records.old) }
-    ensures lent { SameRecords records.old records.new }
+    requires stored { Stored K.Kind.time (with_settings (memory numbers (lists tracks.now runs.now connections.now settings.old)) (slice_set settings.old place setting)) }
+    ensures reckons { Reckons K.Kind.time [] (register_of K.Kind.time (with_settings (memory numbers (lists tracks.now runs.now connections.now settings.old)) (slice_set settings.old place setting))) times.old times.new ring.old ring.new result }
+    ensures records { MatchResult result (λ _. memory numbers (lists tracks.now runs.now connections.now settings.new) ≡ with_settings (memory numbers (lists tracks.now runs.now connections.now settings.old)) (slice_set settings.old place setting)) (λ _. settings.new ≡ settings.old) }
     ensures work { SameWork work.old work.new }
 {
-    let old = records.settings[place];
-    records.settings[place] = setting;
-    match put_in_force(numbers, records.lent(), times, ring, work) {
+    let old = settings[place];
+    settings[place] = setting;
+    let records = Records {
+        tracks,
+        runs,
+        connections,
+        settings: &*settings,
+    };
+    match put_in_force(numbers, records, times, ring, work) {
         Ok(()) => Ok(()),
         Err(fault) => {
             // Stays: put back by hand, since a guard would put a taken setting back too.
-            records.settings[place] = old;
+            settings[place] = old;
             Err(fault)
         }
     }

@@ -18,7 +18,7 @@ use rules::{PlanFault, check_draft};
 // Reckons what a draft puts in force.
 fn start<K: Kind>(
     numbers: Numbers,
-    records: Records<'_, K>,
+    records: Records<K>,
     times: &mut [K],
     ring: &mut [u16],
     work: &mut Work<'_, K>,
@@ -35,7 +35,7 @@ impl Draft {
     /// Uses the draft up and gives an open plan that shows its times. Refused, the draft is handed back.
     pub fn open<K: Kind>(
         self,
-        records: Records<'_, K>,
+        records: Records<K>,
         times: &mut [K],
         ring: &mut [u16],
         work: &mut Work<'_, K>,

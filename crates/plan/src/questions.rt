@@ -19,14 +19,14 @@ impl Open {
     /// The time shown of an event.
     pub fn time<K: Kind>(
         &self,
-        records: Records<'_, K>,
+        records: Records<K>,
         times: &[K],
         event: u16,
     ) -> Result<K, PlanFault>
         ensures rows { let m = memory self.now.numbers (lists_in records.entry) in PlanAnswers (open_rows K.Kind.time m times.now ++ event_rows K.Kind.time (register_of K.Kind.time m) event) result }
         ensures value { IfOk result (λ x. x ≡ time_at K.Kind.time times.now event) }
     {
-        let e = admit_shown(self.numbers, records, times)?;
+        let e = admit_shown(self.numbers, &records, times)?;
         check_event(&e.records(), event)?;
         Ok(times[event as usize])
     }
@@ -34,23 +34,23 @@ impl Open {
     /// The setting of an order or a connection.
     pub fn setting<K: Kind>(
         &self,
-        records: Records<'_, K>,
+        records: Records<K>,
         times: &[K],
         switch: Switch,
     ) -> Result<u8, PlanFault>
         ensures rows { let m = memory self.now.numbers (lists_in records.entry) in PlanAnswers (open_rows K.Kind.time m times.now ++ switch_rows K.Kind.time (register_of K.Kind.time m) switch) result }
         ensures value { IfOk result (λ x. x ≡ setting_of K.Kind.time (register_of K.Kind.time (memory self.now.numbers (lists_in records.entry))) switch) }
     {
-        let e = admit_shown(self.numbers, records, times)?;
+        let e = admit_shown(self.numbers, &records, times)?;
         Ok(find_setting(&e, switch)?)
     }
 
     /// The delay cost of the times shown.
-    pub fn cost<K: Kind>(&self, records: Records<'_, K>, times: &[K]) -> Result<u64, PlanFault>
+    pub fn cost<K: Kind>(&self, records: Records<K>, times: &[K]) -> Result<u64, PlanFault>
         ensures rows { PlanAnswers (open_rows K.Kind.time (memory self.now.numbers (lists_in records.entry)) times.now) result }
         ensures value { IfOk result (λ n. n ≡ delay_cost_lem K.Kind.time (register_of K.Kind.time (memory self.now.numbers (lists_in records.entry))) (time_at K.Kind.time times.now)) }
     {
-        let e = admit_shown(self.numbers, records, times)?;
+        let e = admit_shown(self.numbers, &records, times)?;
         let mut places = [Place {
             earlier: 0,
             sum: 0,

@@ -1,7 +1,6 @@
 //! Trying a setting out.
 ghost use Rattle.std.specs.Prelude.{◌≡◌, ℕ, ◌<◌, [], length, IfOk, slice_set};
 ghost use Rattle.network.specs.Reckoning.{at as time_at};
-ghost use Rattle.records.specs.Lent.{lists_mut, SameRecords};
 ghost use Rattle.records.specs.Register.{register_of};
 ghost use Rattle.records.specs.Stored.{Stored};
 ghost use Rattle.rules.specs.Rows.{RecordsListed};
@@ -18,7 +17,7 @@ use crate::states::Numbers;
 use cost::delay_cost;
 use force::Work;
 use kinds::Kind;
-use records::{Connection, Entered, Records, RecordsMut, Run, Track};
+use records::{Connection, Entered, Records, Run, Track};
 use rules::{PlanFault, Switch};
 
 // The setting bytes with one of them switched. Dropped, the old byte is back.
@@ -54,9 +53,9 @@ impl Drop for Switched<'_> {
 // Stays: each list is lent by itself; tried with one lent struct, and where its fields are lent to be read and to be written the proof didn't close.
 fn try_setting<K: Kind>(
     numbers: Numbers,
-    tracks: &mut [Track<K>],
-    runs: &mut [Run<K>],
-    connections: &mut [Connection<K>],
+    tracks: &[Track<K>],
+    runs: &[Run<K>],
+    connections: &[Connection<K>],
     settings: &mut [u8],
     trial: &mut [K],
     ring: &mut [u16],
@@ -65,12 +64,12 @@ fn try_setting<K: Kind>(
     setting: u8,
 ) -> Result<u64, PlanFault>
     requires inside { place < length settings.old }
-    requires records { RecordsListed (memory numbers (lists tracks.old runs.old connections.old settings.old)) }
+    requires records { RecordsListed (memory numbers (lists tracks.now runs.now connections.now settings.old)) }
     requires listed { Listed (lengths (length trial.old) (length ring.old) (work_lengths work.old)) }
-    requires stored { Stored K.Kind.time (memory numbers (lists tracks.old runs.old connections.old (slice_set settings.old place setting))) }
-    ensures reckons { Reckons K.Kind.time [] (register_of K.Kind.time (memory numbers (lists tracks.old runs.old connections.old (slice_set settings.old place setting)))) trial.old trial.new ring.old ring.new result }
-    ensures cost { IfOk result (λ n. n ≡ delay_cost_lem K.Kind.time (register_of K.Kind.time (memory numbers (lists tracks.old runs.old connections.old (slice_set settings.old place setting)))) (time_at K.Kind.time trial.new)) }
-    ensures records { lists tracks.new runs.new connections.new settings.new ≡ lists tracks.old runs.old connections.old settings.old }
+    requires stored { Stored K.Kind.time (memory numbers (lists tracks.now runs.now connections.now (slice_set settings.old place setting))) }
+    ensures reckons { Reckons K.Kind.time [] (register_of K.Kind.time (memory numbers (lists tracks.now runs.now connections.now (slice_set settings.old place setting)))) trial.old trial.new ring.old ring.new result }
+    ensures cost { IfOk result (λ n. n ≡ delay_cost_lem K.Kind.time (register_of K.Kind.time (memory numbers (lists tracks.now runs.now connections.now (slice_set settings.old place setting)))) (time_at K.Kind.time trial.new)) }
+    ensures records { settings.new ≡ settings.old }
     ensures work { SameWork work.old work.new }
 {
     let old = settings[place];
@@ -95,7 +94,10 @@ impl Open {
     /// Tries a setting out: the times with it changed, in trial memory, and their cost. The plan is as it was.
     pub fn trial<K: Kind>(
         &self,
-        records: &mut RecordsMut<'_, K>,
+        tracks: &[Track<K>],
+        runs: &[Run<K>],
+        connections: &[Connection<K>],
+        settings: &mut [u8],
         times: &[K],
         trial: &mut [K],
         ring: &mut [u16],
@@ -103,15 +105,20 @@ impl Open {
         switch: Switch,
         setting: u8,
     ) -> Result<u64, PlanFault>
-        ensures reckons { let m = memory self.now.numbers (lists_mut records.old) in Reckons K.Kind.time (turning_call_rows K.Kind.time (lengths (length trial.old) (length ring.old) (work_lengths work.old)) m times.now switch setting) (register_of K.Kind.time (switch_memory K.Kind.time m switch setting)) trial.old trial.new ring.old ring.new result }
-        ensures cost { IfOk result (λ n. n ≡ delay_cost_lem K.Kind.time (register_of K.Kind.time (switch_memory K.Kind.time (memory self.now.numbers (lists_mut records.old)) switch setting)) (time_at K.Kind.time trial.new)) }
-        ensures records { lists_mut records.new ≡ lists_mut records.old }
-        ensures lent { SameRecords records.old records.new }
+        ensures reckons { let m = memory self.now.numbers (lists tracks.now runs.now connections.now settings.old) in Reckons K.Kind.time (turning_call_rows K.Kind.time (lengths (length trial.old) (length ring.old) (work_lengths work.old)) m times.now switch setting) (register_of K.Kind.time (switch_memory K.Kind.time m switch setting)) trial.old trial.new ring.old ring.new result }
+        ensures cost { IfOk result (λ n. n ≡ delay_cost_lem K.Kind.time (register_of K.Kind.time (switch_memory K.Kind.time (memory self.now.numbers (lists tracks.now runs.now connections.now settings.old)) switch setting)) (time_at K.Kind.time trial.new)) }
+        ensures records { settings.new ≡ settings.old }
         ensures work { SameWork work.old work.new }
     {
+        let records = Records {
+            tracks,
+            runs,
+            connections,
+            settings: &*settings,
+        };
         let place = admit_turning(
             self.numbers,
-            records,
+            &records,
             times,
             trial.len(),
             ring.len(),
@@ -121,10 +128,10 @@ impl Open {
         )?;
         try_setting(
             self.numbers,
-            records.tracks,
-            records.runs,
-            records.connections,
-            records.settings,
+            tracks,
+            runs,
+            connections,
+            settings,
             trial,
             ring,
             work,

@@ -8,14 +8,14 @@ use kinds::Kind;
 
 /// The memories of a plan's records and settings, lent to be read: 64 tracks, 512 runs, 512 connections, and 4,608 bytes of settings.
 #[derive(Clone, Copy)]
-pub struct Records<'m, K> {
-    pub tracks: &'m [Track<K>],
-    pub runs: &'m [Run<K>],
-    pub connections: &'m [Connection<K>],
-    pub settings: &'m [u8],
+pub struct Records<'t, 'r, 'c, 's, K> {
+    pub tracks: &'t [Track<K>],
+    pub runs: &'r [Run<K>],
+    pub connections: &'c [Connection<K>],
+    pub settings: &'s [u8],
 }
 
-impl<K: Kind> Records<'_, K> {
+impl<K: Kind> Records<'_, '_, '_, '_, K> {
     /// The track at place `i`.
     pub fn track(&self, i: usize) -> Track<K>
         requires { i < length self.now.tracks.now }
@@ -52,7 +52,7 @@ pub struct RecordsMut<'m, K> {
 
 impl<K: Kind> RecordsMut<'_, K> {
     /// The memories, to be read.
-    pub fn lent(&self) -> Records<'_, K>
+    pub fn lent(&self) -> Records<'_, '_, '_, '_, K>
         ensures { lists_in result ≡ lists_mut self.now }
     {
         Records {

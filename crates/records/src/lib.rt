@@ -86,18 +86,20 @@ pub struct Connection<K> {
 /// are entered.
 // Stays: counts beside lists, since a count may pass its memory, and is then refused.
 #[derive(Clone, Copy)]
-pub struct View<'v, K> {
-    pub tracks: &'v [Track<K>],
-    pub runs: &'v [Run<K>],
-    pub connections: &'v [Connection<K>],
-    pub settings: &'v [u8],
+pub struct View<'t, 'r, 'c, 's, K> {
+    pub tracks: &'t [Track<K>],
+    pub runs: &'r [Run<K>],
+    pub connections: &'c [Connection<K>],
+    pub settings: &'s [u8],
     pub track_count: usize,
     pub run_count: usize,
     pub connection_count: usize,
 }
 
 /// What is entered of a view, and all of its settings.
-pub fn entered<'v, K: Kind>(v: View<'v, K>) -> Records<'v, K>
+pub fn entered<'t, 'r, 'c, 's, K: Kind>(
+    v: View<'t, 'r, 'c, 's, K>,
+) -> Records<'t, 'r, 'c, 's, K>
     requires { (v.track_count ≤ length v.tracks.now) × ((v.run_count ≤ length v.runs.now) × (v.connection_count ≤ length v.connections.now)) }
     ensures { lists_in result ≡ lists_entered (seen v.entry) }
 {

@@ -109,7 +109,7 @@ fn flags_stored(settings: &[u8], start: usize, count: usize) -> bool
 }
 
 // Whether records keep the limits, with the bytes of their settings.
-fn limits_kept<K: Kind>(r: Records<'_, K>) -> bool
+fn limits_kept<K: Kind>(r: Records<K>) -> bool
     requires few { (length r.tracks.now ≤ 64) × ((length r.runs.now ≤ 512) × ((length r.connections.now ≤ 512) × (length r.settings.now ≡ 4608))) }
     ensures { Decides result (Limits K.Kind.time (register_from K.Kind.time r.entry.tracks.now r.entry.runs.now r.entry.connections.now r.entry.settings.now)) }
 {
@@ -131,7 +131,7 @@ fn limits_kept<K: Kind>(r: Records<'_, K>) -> bool
 
 /// What is entered of a view that is stored: counts, records and settings are such as the calls take. What lies past the entered is
 /// free. None exactly if it is not stored.
-pub fn check_stored<'v, K: Kind>(v: View<'v, K>) -> Option<Entered<'v, K>>
+pub fn check_stored<'v, K: Kind>(v: View<'v, 'v, 'v, 'v, K>) -> Option<Entered<'v, K>>
     requires { (length v.tracks.now ≡ 64) × ((length v.runs.now ≡ 512) × ((length v.connections.now ≡ 512) × (length v.settings.now ≡ 4608))) }
     ensures { MatchOption result (¬ (Stored K.Kind.time (seen v.entry))) (TakenFrom K.Kind.time (seen v.entry)) }
 {
@@ -157,7 +157,7 @@ fn runs_unused<K: Kind>(runs: &[Run<K>]) -> bool
 }
 
 /// Whether no entered run is reported or held.
-pub fn check_drafted<K: Kind>(records: &Records<'_, K>) -> bool
+pub fn check_drafted<K: Kind>(records: &Records<K>) -> bool
     ensures { Decides result (Drafted K.Kind.time (register_lent K.Kind.time (lists_in records.now))) }
 {
     runs_unused(records.runs)

@@ -26,7 +26,7 @@ impl<'v, K: Kind> Entered<'v, K> {
     ghost use Rattle.records.specs.Stored.{Stored};
 
     /// What is entered of a view that is stored.
-    pub fn of(v: View<'v, K>) -> Self
+    pub fn of(v: View<'v, 'v, 'v, 'v, K>) -> Self
         requires stored { Stored K.Kind.time (seen v) }
         requires lengths { (length v.tracks.now ≡ 64) × ((length v.runs.now ≡ 512) × ((length v.connections.now ≡ 512) × (length v.settings.now ≡ 4608))) }
         ensures { TakenFrom K.Kind.time (seen v.entry) result }
@@ -46,7 +46,7 @@ impl<'v, K: Kind> Entered<'v, K> {
     }
 
     /// What is entered, with no word of its limits.
-    pub fn records(&self) -> Records<'v, K>
+    pub fn records(&self) -> Records<'v, 'v, 'v, 'v, K>
         ensures { lists_in result ≡ lists_of self.now }
     {
         Records {

@@ -15,7 +15,7 @@ use records::{
 };
 
 /// What entering a track refuses.
-pub fn check_track<K: Kind>(records: &Records<'_, K>, track: Track<K>) -> Result<(), PlanFault>
+pub fn check_track<K: Kind>(records: &Records<K>, track: Track<K>) -> Result<(), PlanFault>
     ensures { PlanAnswers (track_rows K.Kind.time (register_lent K.Kind.time (lists_in records.now)) track) result }
 {
     if !duration_fits(track.headway) || !duration_fits(track.meeting) {
@@ -38,7 +38,7 @@ pub(crate) fn count_on<K: Kind>(runs: &[Run<K>], track: u16) -> usize
 }
 
 // Whether one more run on the track passes the number of runs or of orders.
-fn too_many<K: Kind>(records: &Records<'_, K>, track: u16) -> bool
+fn too_many<K: Kind>(records: &Records<K>, track: u16) -> bool
     requires { Limits K.Kind.time (register_lent K.Kind.time (lists_in records.now)) }
     ensures { Decides result ((512 ≤ length records.now.runs.now) ⊎ (4096 < orders_with K.Kind.time (register_lent K.Kind.time (lists_in records.now)) track)) }
 {
@@ -47,7 +47,7 @@ fn too_many<K: Kind>(records: &Records<'_, K>, track: u16) -> bool
 }
 
 /// What entering a run refuses, where what is entered keeps the limits.
-pub fn check_run<K: Kind>(records: &Records<'_, K>, run: Run<K>) -> Result<(), PlanFault>
+pub fn check_run<K: Kind>(records: &Records<K>, run: Run<K>) -> Result<(), PlanFault>
     requires { Limits K.Kind.time (register_lent K.Kind.time (lists_in records.now)) }
     ensures { PlanAnswers (run_rows K.Kind.time (register_lent K.Kind.time (lists_in records.now)) run) result }
 {
@@ -77,7 +77,7 @@ pub fn check_run<K: Kind>(records: &Records<'_, K>, run: Run<K>) -> Result<(), P
 
 /// What entering a connection refuses.
 pub fn check_connection<K: Kind>(
-    records: &Records<'_, K>,
+    records: &Records<K>,
     connection: Connection<K>,
 ) -> Result<(), PlanFault>
     ensures { PlanAnswers (connection_rows K.Kind.time (register_lent K.Kind.time (lists_in records.now)) connection) result }

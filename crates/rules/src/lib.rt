@@ -20,7 +20,9 @@ pub use entries::{check_connection, check_run, check_track};
 pub use faults::PlanFault;
 pub use records::{CONNECTIONS, RUNS, TIME_SIZE, TRACKS};
 pub use reports::{check_event, check_hold, check_release, check_report};
-pub use settings::{check_setting, check_switch, check_turning, find_place, find_setting};
+pub use settings::{
+    check_setting, check_switch, check_turning, find_place, find_setting, place_of, setting_of,
+};
 pub use switches::Switch;
 
 /// The length of the memory of setting bytes: 4,096 of orders, then 512 of connections.
@@ -29,7 +31,7 @@ pub const SETTINGS: usize = 4_608;
 /// The length of the memory of shown times: two of each run.
 pub const SHOWN: usize = 1_024;
 
-fn records_listed<K: Kind>(v: View<'_, K>) -> bool
+fn records_listed<K: Kind>(v: View<K>) -> bool
     ensures { Decides result (RecordsListed (seen v.entry)) }
 {
     v.tracks.len() == TRACKS
@@ -39,7 +41,7 @@ fn records_listed<K: Kind>(v: View<'_, K>) -> bool
 }
 
 /// What every call on a draft refuses first. Taken, what is entered.
-pub fn check_draft<'v, K: Kind>(v: View<'v, K>) -> Result<Entered<'v, K>, PlanFault>
+pub fn check_draft<'v, K: Kind>(v: View<'v, 'v, 'v, 'v, K>) -> Result<Entered<'v, K>, PlanFault>
     ensures rows { PlanAnswers (draft_rows K.Kind.time (seen v.entry)) result }
     ensures sound { OnOk result (SoundDraft K.Kind.time (seen v.entry)) }
     ensures taken { IfOk result (TakenFrom K.Kind.time (seen v.entry)) }
@@ -57,7 +59,7 @@ pub fn check_draft<'v, K: Kind>(v: View<'v, K>) -> Result<Entered<'v, K>, PlanFa
 }
 
 /// What every call on an open plan refuses first. Taken, what is entered.
-pub fn check_open<'v, K: Kind>(v: View<'v, K>, shown: &[K]) -> Result<Entered<'v, K>, PlanFault>
+pub fn check_open<'v, K: Kind>(v: View<'v, 'v, 'v, 'v, K>, shown: &[K]) -> Result<Entered<'v, K>, PlanFault>
     ensures rows { PlanAnswers (open_rows K.Kind.time (seen v.entry) shown.now) result }
     ensures sound { OnOk result (SoundOpen K.Kind.time (seen v.entry) shown.now) }
     ensures taken { IfOk result (TakenFrom K.Kind.time (seen v.entry)) }

@@ -9,7 +9,7 @@ use kinds::Kind;
 use records::{Records, Run};
 
 /// What naming an event refuses.
-pub fn check_event<K: Kind>(records: &Records<'_, K>, event: u16) -> Result<(), PlanFault>
+pub fn check_event<K: Kind>(records: &Records<K>, event: u16) -> Result<(), PlanFault>
     ensures { PlanAnswers (event_rows K.Kind.time (register_lent K.Kind.time (lists_in records.now)) event) result }
 {
     if event as usize / 2 >= records.runs.len() {
@@ -30,7 +30,7 @@ fn untimely<K: Kind>(run: Run<K>, event: u16, at: K) -> bool
 }
 
 /// What reporting an event refuses.
-pub fn check_report<K: Kind>(records: &Records<'_, K>, event: u16, at: K) -> Result<(), PlanFault>
+pub fn check_report<K: Kind>(records: &Records<K>, event: u16, at: K) -> Result<(), PlanFault>
     ensures { PlanAnswers (report_rows K.Kind.time (register_lent K.Kind.time (lists_in records.now)) event at) result }
 {
     check_event(records, event)?;
@@ -44,7 +44,7 @@ pub fn check_report<K: Kind>(records: &Records<'_, K>, event: u16, at: K) -> Res
 }
 
 /// What holding a run refuses.
-pub fn check_hold<K: Kind>(records: &Records<'_, K>, run: u16, until: K) -> Result<(), PlanFault>
+pub fn check_hold<K: Kind>(records: &Records<K>, run: u16, until: K) -> Result<(), PlanFault>
     ensures { PlanAnswers (hold_rows K.Kind.time (register_lent K.Kind.time (lists_in records.now)) run until) result }
 {
     if run as usize >= records.runs.len() {
@@ -64,7 +64,7 @@ pub fn check_hold<K: Kind>(records: &Records<'_, K>, run: u16, until: K) -> Resu
 
 /// What releasing a run by a slip refuses.
 pub fn check_release<K: Kind>(
-    records: &Records<'_, K>,
+    records: &Records<K>,
     plan: u32,
     slip_plan: u32,
     slip_run: u16,

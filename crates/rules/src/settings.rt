@@ -14,7 +14,7 @@ use crate::{PlanFault, Switch};
 use kinds::Kind;
 use records::{Entered, ORDERS, Records, count_orders};
 
-fn check_order<K: Kind>(records: &Records<'_, K>, i: u16, j: u16) -> Result<(), PlanFault>
+fn check_order<K: Kind>(records: &Records<K>, i: u16, j: u16) -> Result<(), PlanFault>
     ensures { PlanAnswers (switch_rows K.Kind.time (register_lent K.Kind.time (lists_in records.now)) (named.Order i j)) result }
 {
     let runs = records.runs.len();
@@ -31,7 +31,7 @@ fn check_order<K: Kind>(records: &Records<'_, K>, i: u16, j: u16) -> Result<(), 
 }
 
 /// What naming an order or a connection refuses.
-pub fn check_switch<K: Kind>(records: &Records<'_, K>, switch: Switch) -> Result<(), PlanFault>
+pub fn check_switch<K: Kind>(records: &Records<K>, switch: Switch) -> Result<(), PlanFault>
     ensures { PlanAnswers (switch_rows K.Kind.time (register_lent K.Kind.time (lists_in records.now)) switch) result }
 {
     match switch {
@@ -53,16 +53,32 @@ fn order_place<K: Kind>(e: &Entered<'_, K>, i: usize, j: usize) -> usize
     count_orders(&e.runs[..j]) as usize + count_on(&e.runs[..i], e.run(i).track)
 }
 
+/// The place of the byte of a switch's setting.
+pub fn place_of<K: Kind>(e: &Entered<'_, K>, switch: Switch) -> usize
+    requires passed { Passed (switch_rows K.Kind.time (register_in K.Kind.time e.now) switch) }
+    ensures { PlaceOf K.Kind.time (register_in K.Kind.time e.now) switch result }
+{
+    match switch {
+        Switch::Order { i, j } => order_place(e, i as usize, j as usize),
+        Switch::Connection { c } => ORDERS + c as usize,
+    }
+}
+
+/// The setting of an order or a connection.
+pub fn setting_of<K: Kind>(e: &Entered<'_, K>, switch: Switch) -> u8
+    requires passed { Passed (switch_rows K.Kind.time (register_in K.Kind.time e.now) switch) }
+    ensures { result ≡ setting_of K.Kind.time (register_in K.Kind.time e.now) switch }
+{
+    e.settings[place_of(e, switch)]
+}
+
 /// The place of the byte of a switch's setting, and what naming the switch refuses.
 pub fn find_place<K: Kind>(e: &Entered<'_, K>, switch: Switch) -> Result<usize, PlanFault>
     ensures rows { PlanAnswers (switch_rows K.Kind.time (register_in K.Kind.time e.now) switch) result }
     ensures place { IfOk result (PlaceOf K.Kind.time (register_in K.Kind.time e.now) switch) }
 {
     check_switch(&e.records(), switch)?;
-    match switch {
-        Switch::Order { i, j } => Ok(order_place(e, i as usize, j as usize)),
-        Switch::Connection { c } => Ok(ORDERS + c as usize),
-    }
+    Ok(place_of(e, switch))
 }
 
 /// The setting of an order or a connection, and what asking for it refuses.
@@ -70,8 +86,8 @@ pub fn find_setting<K: Kind>(e: &Entered<'_, K>, switch: Switch) -> Result<u8, P
     ensures rows { PlanAnswers (switch_rows K.Kind.time (register_in K.Kind.time e.now) switch) result }
     ensures setting { IfOk result (λ x. x ≡ setting_of K.Kind.time (register_in K.Kind.time e.now) switch) }
 {
-    let place = find_place(e, switch)?;
-    Ok(e.settings[place])
+    check_switch(&e.records(), switch)?;
+    Ok(setting_of(e, switch))
 }
 
 /// What giving a switch a setting refuses. Taken, the place of the byte of its setting.

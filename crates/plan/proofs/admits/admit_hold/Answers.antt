@@ -1,5 +1,5 @@
 use Rattle.std.proofs.Common.{ap, ◌∙◌, length}
-use Rattle.records.specs.Lent.{register_lent, lists_mut}
+use Rattle.records.specs.Lent.{register_lent, lists_in}
 use Rattle.records.specs.Register.{Register, register_of}
 use Rattle.force.specs.Work.{work_lengths}
 use Rattle.rules.specs.Rows.{hold_rows}
@@ -13,7 +13,7 @@ pub returns-in_err-e-clause-rows : goal.returns-in_err-e-clause-rows
 returns-in_err-e-clause-rows g c =
     let t = g.K.Kind.time in
     let a = c.args in
-    let m = memory a.numbers (lists_mut a.records.now) in
+    let m = memory a.numbers (lists_in a.records.now) in
     left_front _ _ c.from_residual.ensures.1 (open_call_rows t (lengths (length a.times.now) a.ring (work_lengths a.work.now)) m a.times.now) (hold_rows t (register_of t m) a.run a.until) c.in_err-e.ensures.rows
 
 pub returns : goal.returns
@@ -21,7 +21,7 @@ returns g c =
     let t = g.K.Kind.time in
     let a = c.args in
     let l = lengths (length a.times.now) a.ring (work_lengths a.work.now) in
-    let m = memory a.numbers (lists_mut a.records.now) in
+    let m = memory a.numbers (lists_in a.records.now) in
     let ys = λ (R : Register g.row.K.Denot). hold_rows t R a.run a.until in
     let known = c.in_ok-e.ensures in
     record {

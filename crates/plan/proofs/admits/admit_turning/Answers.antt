@@ -1,4 +1,4 @@
-use Rattle.records.specs.Lent.{lists_mut}
+use Rattle.records.specs.Lent.{lists_in}
 use Rattle.records.specs.Register.{Register, register_of}
 use Rattle.force.specs.Work.{work_lengths}
 use Rattle.rules.specs.Rows.{turning_rows}
@@ -12,7 +12,7 @@ pub returns-in_err-e-clause-rows : goal.returns-in_err-e-clause-rows
 returns-in_err-e-clause-rows g c =
     let t = g.K.Kind.time in
     let a = c.args in
-    let m = memory a.numbers (lists_mut a.records.now) in
+    let m = memory a.numbers (lists_in a.records.now) in
     left_front _ _ c.from_residual.ensures.1 (open_call_rows t (lengths a.written a.ring (work_lengths a.work.now)) m a.times.now) (turning_rows t (register_of t m) a.switch a.setting) c.in_err-e.ensures.rows
 
 pub returns : goal.returns
@@ -20,7 +20,7 @@ returns g c =
     let t = g.K.Kind.time in
     let a = c.args in
     let l = lengths a.written a.ring (work_lengths a.work.now) in
-    let m = memory a.numbers (lists_mut a.records.now) in
+    let m = memory a.numbers (lists_in a.records.now) in
     let ys = λ (R : Register g.row.K.Denot). turning_rows t R a.switch a.setting in
     let known = c.in_ok-e.ensures in
     let found = c.check_turning.ensures in

@@ -1,4 +1,4 @@
-use Rattle.records.specs.Lent.{lists_mut}
+use Rattle.records.specs.Lent.{lists_in}
 use Rattle.records.specs.Register.{Register, register_of}
 use Rattle.rules.specs.Rows.{draft_rows, setting_rows}
 use Rattle.plan.specs.States.{memory}
@@ -10,14 +10,14 @@ pub returns-in_err-e-clause-rows : goal.returns-in_err-e-clause-rows
 returns-in_err-e-clause-rows g c =
     let t = g.K.Kind.time in
     let a = c.args in
-    let m = memory a.numbers (lists_mut a.records.now) in
+    let m = memory a.numbers (lists_in a.records.now) in
     left_front _ _ c.from_residual.ensures.1 (draft_rows t m) (setting_rows t (register_of t m) a.switch a.setting) c.in_err-e.ensures.rows
 
 pub returns : goal.returns
 returns g c =
     let t = g.K.Kind.time in
     let a = c.args in
-    let m = memory a.numbers (lists_mut a.records.now) in
+    let m = memory a.numbers (lists_in a.records.now) in
     let known = c.in_ok-e.ensures in
     let found = c.check_setting.ensures in
     record {

@@ -1,6 +1,6 @@
 use Rattle.std.proofs.Common.{sym, ap, ◌∙◌, subst}
 use Rattle.records.specs.Stored.{Limits}
-use Rattle.records.specs.Lent.{Lists, lists_mut, register_lent}
+use Rattle.records.specs.Lent.{Lists, lists_in, register_lent}
 use Rattle.records.specs.Register.{Register, register_of}
 use Rattle.rules.specs.Rows.{draft_rows, run_rows}
 use Rattle.plan.specs.States.{memory}
@@ -12,14 +12,14 @@ pub returns-in_err-e-clause-rows : goal.returns-in_err-e-clause-rows
 returns-in_err-e-clause-rows g c =
     let t = g.K.Kind.time in
     let a = c.args in
-    let m = memory a.numbers (lists_mut a.records.now) in
+    let m = memory a.numbers (lists_in a.records.now) in
     left_front _ _ c.from_residual.ensures.1 (draft_rows t m) (run_rows t (register_of t m) a.run) c.in_err-e.ensures.rows
 
 pub returns : goal.returns
 returns g c =
     let t = g.K.Kind.time in
     let a = c.args in
-    let m = memory a.numbers (lists_mut a.records.now) in
+    let m = memory a.numbers (lists_in a.records.now) in
     let ys = λ (R : Register g.row.K.Denot). run_rows t R a.run in
     let known = c.in_ok-e.ensures in
     record {
