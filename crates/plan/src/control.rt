@@ -66,7 +66,18 @@ impl Open {
         admit_report(self.numbers, &records, times, ring.len(), work, event, at)?;
         let r = event as usize / 2;
         let run = with_report(runs[r], event, at);
-        replace_run(self.numbers, tracks, runs, connections, settings, times, ring, work, r, run)
+        replace_run(
+            self.numbers,
+            tracks,
+            runs,
+            connections,
+            settings,
+            times,
+            ring,
+            work,
+            r,
+            run,
+        )
     }
 
     /// Gives an order or a connection another setting, and reckons: what `order` and `connect` do, of a switch.
@@ -102,7 +113,18 @@ impl Open {
             switch,
             setting,
         )?;
-        replace_setting(self.numbers, tracks, runs, connections, settings, times, ring, work, place, setting)
+        replace_setting(
+            self.numbers,
+            tracks,
+            runs,
+            connections,
+            settings,
+            times,
+            ring,
+            work,
+            place,
+            setting,
+        )
     }
 
     /// Sets which of two runs on a track goes ahead, and reckons.
@@ -124,7 +146,17 @@ impl Open {
         ensures work { SameWork work.old work.new }
     {
         let switch = Switch::Order { i, j };
-        self.turn(tracks, runs, connections, settings, times, ring, work, switch, setting)
+        self.turn(
+            tracks,
+            runs,
+            connections,
+            settings,
+            times,
+            ring,
+            work,
+            switch,
+            setting,
+        )
     }
 
     /// Keeps or breaks a connection, and reckons.
@@ -146,7 +178,17 @@ impl Open {
         ensures work { SameWork work.old work.new }
     {
         let switch = Switch::Connection { c };
-        self.turn(tracks, runs, connections, settings, times, ring, work, switch, setting)
+        self.turn(
+            tracks,
+            runs,
+            connections,
+            settings,
+            times,
+            ring,
+            work,
+            switch,
+            setting,
+        )
     }
 
     /// Holds a run until a time, and reckons. The slip has to be given back by `release`.
@@ -176,7 +218,18 @@ impl Open {
         admit_hold(self.numbers, &records, times, ring.len(), work, run, until)?;
         let r = run as usize;
         let held = with_hold(runs[r], Some(until));
-        replace_run(self.numbers, tracks, runs, connections, settings, times, ring, work, r, held)?;
+        replace_run(
+            self.numbers,
+            tracks,
+            runs,
+            connections,
+            settings,
+            times,
+            ring,
+            work,
+            r,
+            held,
+        )?;
         Ok(Slip {
             plan: self.numbers.number,
             run,
@@ -217,7 +270,18 @@ impl Open {
         )?;
         let r = slip_run as usize;
         let free = with_hold(runs[r], None);
-        replace_run(self.numbers, tracks, runs, connections, settings, times, ring, work, r, free)
+        replace_run(
+            self.numbers,
+            tracks,
+            runs,
+            connections,
+            settings,
+            times,
+            ring,
+            work,
+            r,
+            free,
+        )
     }
 
     /// Takes a slip back, strikes out its hold and reckons. Refused, the slip is handed back.
@@ -237,7 +301,17 @@ impl Open {
         ensures slip { IfErr result (λ u. u.slip ≡ slip) }
         ensures work { SameWork work.old work.new }
     {
-        match self.strike(tracks, runs, connections, settings, times, ring, work, slip.plan, slip.run) {
+        match self.strike(
+            tracks,
+            runs,
+            connections,
+            settings,
+            times,
+            ring,
+            work,
+            slip.plan,
+            slip.run,
+        ) {
             Ok(()) => {
                 let Slip { plan: _, run: _ } = slip;
                 Ok(())

@@ -20,7 +20,10 @@ pub(crate) struct Numbers {
 
 impl Numbers {
     /// The memory of a plan, to be read.
-    pub(crate) fn view<'v, K: Kind>(self, records: Records<'v, 'v, 'v, 'v, K>) -> View<'v, 'v, 'v, 'v, K>
+    pub(crate) fn view<'v, K: Kind>(
+        self,
+        records: Records<'v, 'v, 'v, 'v, K>,
+    ) -> View<'v, 'v, 'v, 'v, K>
         ensures { seen result ≡ memory self (lists_in records.entry) }
     {
         View {

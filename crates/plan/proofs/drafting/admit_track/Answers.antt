@@ -1,12 +1,18 @@
 use Rattle.std.proofs.Common.{ap, ◌∙◌}
 use Rattle.records.specs.Lent.{Lists, register_lent, lists_in}
-use Rattle.records.specs.Register.{Register}
+use Rattle.records.specs.Register.{Register, register_of}
 use Rattle.rules.specs.Rows.{draft_rows, track_rows}
 use Rattle.plan.specs.States.{memory}
 use Rattle.records.specs.Entered.{register_in}
 use Rattle.plan.proofs.Entering.{track_room}
-use Rattle.plan.proofs.Told.{told, told_behind}
+use Rattle.plan.proofs.Told.{left_front, told, told_behind}
 use Rattle.plan.proofs.drafting.admit_track.Goals as goal
+
+pub returns-in_err-e-clause-rows : goal.returns-in_err-e-clause-rows
+returns-in_err-e-clause-rows g c =
+    let t = g.K.Kind.time in
+    let m = memory c.args.numbers (lists_in c.args.records.now) in
+    left_front _ _ c.from_residual.ensures.1 (draft_rows t m) (track_rows t (register_of t m) c.args.track) c.in_err-e.ensures.rows
 
 pub returns-clause-rows : goal.returns-clause-rows
 returns-clause-rows g c =

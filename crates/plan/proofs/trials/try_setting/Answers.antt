@@ -23,7 +23,7 @@ returns-in_err-put_in_force-clause-reckons g c =
 pub returns-in_err-put_in_force-clause-records : goal.returns-in_err-put_in_force-clause-records
 returns-in_err-put_in_force-clause-records g c =
     let a = c.args in
-    ap (lists a.tracks.now a.runs.now a.connections.now) (c.drop-switched.ensures ∙ set-set a.settings.now a.place a.setting _ ∙ set-get_or a.settings.now a.place 0)
+    c.drop-switched.ensures ∙ set-set a.settings.now a.place a.setting _ ∙ set-get_or a.settings.now a.place 0
 
 pub delay_cost-requires-clause-shown : goal.delay_cost-requires-clause-shown
 delay_cost-requires-clause-shown g c =
@@ -50,4 +50,4 @@ returns-clause-reckons g c =
 pub returns-clause-records : goal.returns-clause-records
 returns-clause-records g c =
     let a = c.args in
-    ap (lists a.tracks.now a.runs.now a.connections.now) (c.drop-switched-2.ensures ∙ set-set a.settings.now a.place a.setting _ ∙ set-get_or a.settings.now a.place 0)
+    c.drop-switched-2.ensures ∙ set-set a.settings.now a.place a.setting _ ∙ set-get_or a.settings.now a.place 0

@@ -1,10 +1,9 @@
 use Rattle.std.proofs.Common.{◌/◌, ◌%◌, length, set, ap, ◌∙◌, arith}
 use Rattle.std.proofs.lemmas.Result.{MatchResult-weaker}
 use Rattle.records.specs.declared.Run.{Run}
-use Rattle.records.specs.Lent.{lists_mut}
 use Rattle.records.specs.Register.{register_of}
 use Rattle.force.specs.Work.{work_lengths}
-use Rattle.plan.specs.States.{memory}
+use Rattle.plan.specs.States.{memory, lists}
 use Rattle.plan.specs.Steps.{with_runs, reported, report_memory}
 use Rattle.plan.specs.Calls.{lengths, report_call_rows}
 use Rattle.plan.proofs.Told.{written}
@@ -15,7 +14,7 @@ pub returns-in_err-admit_report-clause-reckons : goal.returns-in_err-admit_repor
 returns-in_err-admit_report-clause-reckons g c =
     let t = g.K.Kind.time in
     let a = c.args in
-    let m = memory a.self.now.numbers (lists_mut a.records.now) in
+    let m = memory a.self.now.numbers (lists a.tracks.now a.runs.now a.connections.now a.settings.now) in
     let rows = report_call_rows t (lengths (length a.times.now) (length a.ring.now) (work_lengths a.work.now)) m a.times.now a.event a.at in
     refused t rows (register_of t (report_memory t m a.event a.at)) (omega arith, (omega arith, (omega arith, (omega arith, (omega arith, (omega arith, (omega arith, (omega arith, tt)))))))) a.times.now a.ring.now _ _ c.from_residual.ensures.1 c.in_err-admit_report.ensures.rows
 
@@ -23,16 +22,16 @@ pub returns-clause-reckons : goal.returns-clause-reckons
 returns-clause-reckons g c =
     let t = g.K.Kind.time in
     let a = c.args in
-    let m = memory a.self.now.numbers (lists_mut a.records.now) in
+    let m = memory a.self.now.numbers (lists a.tracks.now a.runs.now a.connections.now a.settings.now) in
     let rows = report_call_rows t (lengths (length a.times.now) (length a.ring.now) (work_lengths a.work.now)) m a.times.now a.event a.at in
     let new = c.replace_run.new in
     let known = c.in_ok-admit_report.ensures in
-    reckons t a.times.now new.times a.ring.now new.ring rows (register_of t (with_runs m (set a.records.now.runs.now (a.event / 2) c.with_report-run.result))) (register_of t (report_memory t m a.event a.at)) c.replace_run.result known.rows (ap (register_of t) (written t m (a.event / 2) (λ (x : Run g.row.K.Denot). reported x (a.event % 2) a.at) _ _ known.ready.0 c.with_report-run.ensures)) c.replace_run.ensures.reckons
+    reckons t a.times.now new.times a.ring.now new.ring rows (register_of t (with_runs m (set a.runs.now (a.event / 2) c.with_report-run.result))) (register_of t (report_memory t m a.event a.at)) c.replace_run.result known.rows (ap (register_of t) (written t m (a.event / 2) (λ (x : Run g.row.K.Denot). reported x (a.event % 2) a.at) _ _ known.ready.0 (c.with_report-run.ensures ∙ ap (λ (x : Run g.row.K.Denot). reported x (a.event % 2) a.at) c.index-runs-r.is))) c.replace_run.ensures.reckons
 
 pub returns-clause-records : goal.returns-clause-records
 returns-clause-records g c =
     let t = g.K.Kind.time in
     let a = c.args in
-    let m = memory a.self.now.numbers (lists_mut a.records.now) in
+    let m = memory a.self.now.numbers (lists a.tracks.now a.runs.now a.connections.now a.settings.now) in
     let known = c.in_ok-admit_report.ensures in
-    MatchResult-weaker c.replace_run.result c.replace_run.ensures.records (λ x e. e ∙ written t m (a.event / 2) (λ (x : Run g.row.K.Denot). reported x (a.event % 2) a.at) _ _ known.ready.0 c.with_report-run.ensures) (λ x e. e)
+    MatchResult-weaker c.replace_run.result c.replace_run.ensures.records (λ x e. e ∙ written t m (a.event / 2) (λ (x : Run g.row.K.Denot). reported x (a.event % 2) a.at) _ _ known.ready.0 (c.with_report-run.ensures ∙ ap (λ (x : Run g.row.K.Denot). reported x (a.event % 2) a.at) c.index-runs-r.is)) (λ x e. e)
