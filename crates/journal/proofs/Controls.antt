@@ -9,11 +9,12 @@ use Rattle.network.specs.Reckoning.{at}
 use Rattle.network.specs.Refusals.{Row, Passed, First}
 use Rattle.network.proofs.Refusals.{Under, first_not_passed}
 use Rattle.records.specs.declared.Run.{Run}
-use Rattle.records.specs.Lent.{Lists, lists_mut}
+use Rattle.records.specs.Lent.{Lists}
 use Rattle.records.specs.Records.{run_at}
 use Rattle.records.specs.Register.{Register, Memory, register_of}
 use Rattle.records.specs.Stored.{Stored, Limits, Shown}
 use Rattle.force.specs.Constraints.{in_force}
+use Rattle.force.specs.declared.work.Work.{Work}
 use Rattle.force.specs.Work.{work_lengths}
 use Rattle.force.proofs.Sizes.{least_small}
 use Rattle.cost.specs.Cost.{delay_cost_lem}
@@ -45,7 +46,7 @@ use Rattle.journal.specs.declared.calls.CallFault.TheVariants as fault
 use Rattle.journal.specs.declared.calls.Plan.TheVariants as stage
 use Rattle.journal.specs.declared.memories.Memories.{Memories}
 use Rattle.journal.specs.Books.{Books, with_register, taken}
-use Rattle.journal.specs.Memories.{AllListed, sizes, state}
+use Rattle.journal.specs.Memories.{AllListed, sizes, lists_held, state}
 use Rattle.journal.specs.Rows.{controlling, call_rows}
 use Rattle.journal.specs.Promise.{Stands, Told, RingTold, to_force}
 use Rattle.journal.proofs.Rules.{report_under, turning_under, event_under, switch_under}
@@ -68,19 +69,19 @@ switched_runs : {K : Type 0} (R : Register K) (s : Switch) (setting : ℕ) → (
 switched_runs R (switch.Order i j) setting = refl
 switched_runs R (switch.Connection c) setting = refl
 
-module _ {K : Type 0} (t : Time K) (laws : Laws t) (o : Open) (m : Memories K) (listed : AllListed (sizes m)) (B : Books K) (st : Stands t B (state (stage.Open o) m)) where
+module _ {K : Type 0} (t : Time K) (laws : Laws t) (o : Open) (m : Memories K) (work : Work K) (listed : AllListed (sizes m work)) (B : Books K) (st : Stands t B (state (stage.Open o) m)) where
   abbrev before : Memory K
-  before = memory o.numbers (lists_mut m.records)
+  before = memory o.numbers (lists_held m)
 
   abbrev was : Register K
   was = register_of t before
 
   abbrev w : Lengths
-  w = lengths (length m.times.now) (length m.ring.now) (work_lengths m.work)
+  w = lengths (length m.times.now) (length m.ring.now) (work_lengths work)
 
   -- the same of a trial
   abbrev wt : Lengths
-  wt = lengths (length m.trial.now) (length m.ring.now) (work_lengths m.work)
+  wt = lengths (length m.trial.now) (length m.ring.now) (work_lengths work)
 
   pub records : RecordsListed before
   records = record { tracks = listed.tracks; runs = listed.runs; connections = listed.connections; settings = listed.settings }
@@ -101,7 +102,7 @@ module _ {K : Type 0} (t : Time K) (laws : Laws t) (o : Open) (m : Memories K) (
   kept = limits_kept_lem t
 
   pub long_was : length was.runs ≡ o.numbers.runs
-  long_was = let f = st.stored.few_runs in let e = records.runs in length-take-le o.numbers.runs m.records.runs.now (omega arith)
+  long_was = let f = st.stored.few_runs in let e = records.runs in length-take-le o.numbers.runs m.runs.now (omega arith)
 
   pub long_runs : length B.register.runs ≡ o.numbers.runs
   long_runs = ap length (sym st.same.runs) ∙ long_was
@@ -116,14 +117,14 @@ module _ {K : Type 0} (t : Time K) (laws : Laws t) (o : Open) (m : Memories K) (
   pub off : (l : Lengths) → Listed l → Passed (open_call_rows t l before m.times.now)
   off l works = ((λ no_lists. no_lists works), open_passed)
 
-  pub fronts_pass : (own : List Row) → Passed own → Passed (controlling t (sizes m) B own)
+  pub fronts_pass : (own : List Row) → Passed own → Passed (controlling t (sizes m work) B own)
   fronts_pass own p = ((λ e. false≢true (sym e ∙ opened)), ((λ no_lists. no_lists listed), p))
 
-  pub fronts_first : (own : List Row) (n p : ℕ) → First own n p → First (controlling t (sizes m) B own) n p
+  pub fronts_first : (own : List Row) (n p : ℕ) → First own n p → First (controlling t (sizes m work) B own) n p
   fronts_first own n p f = inr ((λ e. false≢true (sym e ∙ opened)), inr ((λ no_lists. no_lists listed), f))
 
   -- a refused call leaves all as it was
-  pub open_kept : (r' : Lists K) (times' : List K) → r' ≡ lists_mut m.records → times' ≡ m.times.now → Stands t B (state_of (stage.Open o) r' times' m.slips.now)
+  pub open_kept : (r' : Lists K) (times' : List K) → r' ≡ lists_held m → times' ≡ m.times.now → Stands t B (state_of (stage.Open o) r' times' m.slips.now)
   open_kept r' times' e f = subst (Stands t B) (same_state refl (sym e) (sym f) refl) st
 
   -- a memory with the same counts
@@ -166,8 +167,8 @@ module _ {K : Type 0} (t : Time K) (laws : Laws t) (o : Open) (m : Memories K) (
 
   module _ (ring : List ℕ) (trial : List K) where
     -- a call that reckons and is refused: its rows by register, what it was to put in force in memory and in the books
-    pub control_refused : (l : Lengths) → Listed l → (c : Call K) (own : Register K → List Row) (R R' : Register K) → R' ≡ to_force t B c → call_rows t (sizes m) B c ≡ controlling t (sizes m) B (own B.register ++ ring_rows t R') → Matching (own was) (own B.register) → Under 12 (own was) → (Passed (own was) → Same t R R') → (X : Type 0) (f : PlanFault) (from to : List K)
-        → Reckons t (open_call_rows t l before m.times.now ++ own was) R from to m.ring.now ring (failed X f) → Told t (sizes m) B c (Err (fault.Plan f)) ring trial
+    pub control_refused : (l : Lengths) → Listed l → (c : Call K) (own : Register K → List Row) (R R' : Register K) → R' ≡ to_force t B c → call_rows t (sizes m work) B c ≡ controlling t (sizes m work) B (own B.register ++ ring_rows t R') → Matching (own was) (own B.register) → Under 12 (own was) → (Passed (own was) → Same t R R') → (X : Type 0) (f : PlanFault) (from to : List K)
+        → Reckons t (open_call_rows t l before m.times.now ++ own was) R from to m.ring.now ring (failed X f) → Told t (sizes m work) B c (Err (fault.Plan f)) ring trial
     control_refused l works c own R R' is rows match under same X f from to k =
         let r = reckoned_refused t (open_call_rows t l before m.times.now) (own was) (own B.register) R R' (off l works) match same from to m.ring.now ring under X f k in
         let P : Register K → Type 0 = λ S. RingTold t S ring (Err (fault.Plan f)) in
@@ -180,7 +181,7 @@ module _ {K : Type 0} (t : Time K) (laws : Laws t) (o : Open) (m : Memories K) (
 
     module _ (r' : Lists K) (times' : List K) where
       pub report_step : (v : ℕ) (x : K) → Reckons t (open_call_rows t w before m.times.now ++ report_rows t was v x) (register_of t (report_memory t before v x)) m.times.now times' m.ring.now ring (took (Unit {0}) tt) → memory o.numbers r' ≡ report_memory t before v x
-          → Told t (sizes m) B (call.Report v x) (Ok answer.Done) ring trial × Stands t (taken t B (call.Report v x)) (state_of (stage.Open o) r' times' m.slips.now)
+          → Told t (sizes m work) B (call.Report v x) (Ok answer.Done) ring trial × Stands t (taken t B (call.Report v x)) (state_of (stage.Open o) r' times' m.slips.now)
       report_step v x k written =
           let rows = open_call_rows t w before m.times.now in
           let fine = passed_back rows (report_rows t was v x) (passed_front (rows ++ report_rows t was v x) (ring_rows t (register_of t (report_memory t before v x))) k.answers) in
@@ -191,8 +192,8 @@ module _ {K : Type 0} (t : Time K) (laws : Laws t) (o : Open) (m : Memories K) (
             open_stands r' (report_memory t before v x) times' (report t B.register v x) written (stored_by (report_memory t before v x) (report t B.register v x) refl refl refl same good) same (length-set B.register.runs (v / 2) _) (run_kept t B.register.runs (v / 2) _ refl) r.1,
           )
 
-      pub report_refused : (v : ℕ) (x : K) (f : PlanFault) → Reckons t (open_call_rows t w before m.times.now ++ report_rows t was v x) (register_of t (report_memory t before v x)) m.times.now times' m.ring.now ring (failed (Unit {0}) f) → r' ≡ lists_mut m.records
-          → Told t (sizes m) B (call.Report v x) (Err (fault.Plan f)) ring trial × Stands t B (state_of (stage.Open o) r' times' m.slips.now)
+      pub report_refused : (v : ℕ) (x : K) (f : PlanFault) → Reckons t (open_call_rows t w before m.times.now ++ report_rows t was v x) (register_of t (report_memory t before v x)) m.times.now times' m.ring.now ring (failed (Unit {0}) f) → r' ≡ lists_held m
+          → Told t (sizes m work) B (call.Report v x) (Err (fault.Plan f)) ring trial × Stands t B (state_of (stage.Open o) r' times' m.slips.now)
       report_refused v x f k e =
           let own : Register K → List Row = λ R. report_rows t R v x in (
             control_refused w listed.work (call.Report v x) own (register_of t (report_memory t before v x)) (report t B.register v x) refl refl (report_match t was B.register st.same v x) (report_under t was v x) (reported_same v x) (Unit {0}) f m.times.now times' k,
@@ -200,7 +201,7 @@ module _ {K : Type 0} (t : Time K) (laws : Laws t) (o : Open) (m : Memories K) (
           )
 
       pub turn_step : (s : Switch) (setting : ℕ) → Reckons t (open_call_rows t w before m.times.now ++ turning_rows t was s setting) (register_of t (switch_memory t before s setting)) m.times.now times' m.ring.now ring (took (Unit {0}) tt) → memory o.numbers r' ≡ switch_memory t before s setting
-          → Told t (sizes m) B (call.Turn s setting) (Ok answer.Done) ring trial × Stands t (taken t B (call.Turn s setting)) (state_of (stage.Open o) r' times' m.slips.now)
+          → Told t (sizes m work) B (call.Turn s setting) (Ok answer.Done) ring trial × Stands t (taken t B (call.Turn s setting)) (state_of (stage.Open o) r' times' m.slips.now)
       turn_step s setting k written =
           let rows = open_call_rows t w before m.times.now in
           let fine = passed_back rows (turning_rows t was s setting) (passed_front (rows ++ turning_rows t was s setting) (ring_rows t (register_of t (switch_memory t before s setting))) k.answers) in
@@ -212,8 +213,8 @@ module _ {K : Type 0} (t : Time K) (laws : Laws t) (o : Open) (m : Memories K) (
             open_stands r' (switch_memory t before s setting) times' (set_switch B.register s setting) written (stored_by (switch_memory t before s setting) (set_switch B.register s setting) refl refl refl same good) same (ap length runs_same) (λ i. ap (λ rs. (run_at t rs i).hold) runs_same) r.1,
           )
 
-      pub turn_refused : (s : Switch) (setting : ℕ) (f : PlanFault) → Reckons t (open_call_rows t w before m.times.now ++ turning_rows t was s setting) (register_of t (switch_memory t before s setting)) m.times.now times' m.ring.now ring (failed (Unit {0}) f) → r' ≡ lists_mut m.records
-          → Told t (sizes m) B (call.Turn s setting) (Err (fault.Plan f)) ring trial × Stands t B (state_of (stage.Open o) r' times' m.slips.now)
+      pub turn_refused : (s : Switch) (setting : ℕ) (f : PlanFault) → Reckons t (open_call_rows t w before m.times.now ++ turning_rows t was s setting) (register_of t (switch_memory t before s setting)) m.times.now times' m.ring.now ring (failed (Unit {0}) f) → r' ≡ lists_held m
+          → Told t (sizes m work) B (call.Turn s setting) (Err (fault.Plan f)) ring trial × Stands t B (state_of (stage.Open o) r' times' m.slips.now)
       turn_refused s setting f k e =
           let own : Register K → List Row = λ R. turning_rows t R s setting in (
             control_refused w listed.work (call.Turn s setting) own (register_of t (switch_memory t before s setting)) (set_switch B.register s setting) refl refl (turning_match t was B.register st.same s setting) (turning_under t was s setting) (turned_same s setting) (Unit {0}) f m.times.now times' k,
@@ -221,8 +222,8 @@ module _ {K : Type 0} (t : Time K) (laws : Laws t) (o : Open) (m : Memories K) (
           )
 
     module _ (r' : Lists K) (s : Switch) (setting : ℕ) where
-      pub trial_step : (n : ℕ) → Reckons t (open_call_rows t wt before m.times.now ++ turning_rows t was s setting) (register_of t (switch_memory t before s setting)) m.trial.now trial m.ring.now ring (took ℕ n) → n ≡ delay_cost_lem t (register_of t (switch_memory t before s setting)) (at t trial) → r' ≡ lists_mut m.records
-          → Told t (sizes m) B (call.Trial s setting) (Ok (answer.Cost n)) ring trial × Stands t B (state_of (stage.Open o) r' m.times.now m.slips.now)
+      pub trial_step : (n : ℕ) → Reckons t (open_call_rows t wt before m.times.now ++ turning_rows t was s setting) (register_of t (switch_memory t before s setting)) m.trial.now trial m.ring.now ring (took ℕ n) → n ≡ delay_cost_lem t (register_of t (switch_memory t before s setting)) (at t trial) → r' ≡ lists_held m
+          → Told t (sizes m work) B (call.Trial s setting) (Ok (answer.Cost n)) ring trial × Stands t B (state_of (stage.Open o) r' m.times.now m.slips.now)
       trial_step n k cost e =
           let rows = open_call_rows t wt before m.times.now in
           let fine = passed_back rows (turning_rows t was s setting) (passed_front (rows ++ turning_rows t was s setting) (ring_rows t (register_of t (switch_memory t before s setting))) k.answers) in
@@ -236,66 +237,57 @@ module _ {K : Type 0} (t : Time K) (laws : Laws t) (o : Open) (m : Memories K) (
             open_kept r' m.times.now e refl,
           )
 
-      pub trial_refused : (f : PlanFault) → Reckons t (open_call_rows t wt before m.times.now ++ turning_rows t was s setting) (register_of t (switch_memory t before s setting)) m.trial.now trial m.ring.now ring (failed ℕ f) → r' ≡ lists_mut m.records
-          → Told t (sizes m) B (call.Trial s setting) (Err (fault.Plan f)) ring trial × Stands t B (state_of (stage.Open o) r' m.times.now m.slips.now)
+      pub trial_refused : (f : PlanFault) → Reckons t (open_call_rows t wt before m.times.now ++ turning_rows t was s setting) (register_of t (switch_memory t before s setting)) m.trial.now trial m.ring.now ring (failed ℕ f) → r' ≡ lists_held m
+          → Told t (sizes m work) B (call.Trial s setting) (Err (fault.Plan f)) ring trial × Stands t B (state_of (stage.Open o) r' m.times.now m.slips.now)
       trial_refused f k e =
           let own : Register K → List Row = λ R. turning_rows t R s setting in (
             control_refused wt trial_listed (call.Trial s setting) own (register_of t (switch_memory t before s setting)) (set_switch B.register s setting) refl refl (turning_match t was B.register st.same s setting) (turning_under t was s setting) (turned_same s setting) ℕ f m.trial.now trial k,
             open_kept r' m.times.now e refl,
           )
 
-    -- the questions, of records that are lent to be read
-    module _ (r : Lists K) (lent : r ≡ lists_mut m.records) where
-      pub time_step : (v : ℕ) (y : K) → Passed (open_rows t (memory o.numbers r) m.times.now ++ event_rows t (register_of t (memory o.numbers r)) v) → y ≡ at t m.times.now v → Told t (sizes m) B (call.Time v) (Ok (answer.Time y)) ring trial
-      time_step v y passed e =
-          let P : Lists K → Type 0 = λ x. Passed (open_rows t (memory o.numbers x) m.times.now ++ event_rows t (register_of t (memory o.numbers x)) v) in
-          record {
-            answers = fronts_pass (event_rows t B.register v) ((shared.event v).passed (passed_back (open_rows t before m.times.now) (event_rows t was v) (subst P lent passed)));
-            carried = (at t m.times.now, st.shows opened, ap answer.Time e);
-            named = tt;
-          }
+    -- the questions
+    pub time_step : (v : ℕ) (y : K) → Passed (open_rows t before m.times.now ++ event_rows t was v) → y ≡ at t m.times.now v → Told t (sizes m work) B (call.Time v) (Ok (answer.Time y)) ring trial
+    time_step v y passed e =
+        record {
+          answers = fronts_pass (event_rows t B.register v) ((shared.event v).passed (passed_back (open_rows t before m.times.now) (event_rows t was v) passed));
+          carried = (at t m.times.now, st.shows opened, ap answer.Time e);
+          named = tt;
+        }
 
-      pub time_refused : (v : ℕ) (f : PlanFault) → First (open_rows t (memory o.numbers r) m.times.now ++ event_rows t (register_of t (memory o.numbers r)) v) (plan_number f) (plan_place f) → Told t (sizes m) B (call.Time v) (Err (fault.Plan f)) ring trial
-      time_refused v f first =
-          let P : Lists K → Type 0 = λ x. First (open_rows t (memory o.numbers x) m.times.now ++ event_rows t (register_of t (memory o.numbers x)) v) (plan_number f) (plan_place f) in
-          let own = first_behind (open_rows t before m.times.now) (event_rows t was v) _ _ open_passed (subst P lent first) in
-          record {
-            answers = fronts_first (event_rows t B.register v) _ _ ((shared.event v).first _ _ own);
-            carried = tt;
-            named = none_told t B.register ring (event_rows t was v) (event_under t was v) f own;
-          }
+    pub time_refused : (v : ℕ) (f : PlanFault) → First (open_rows t before m.times.now ++ event_rows t was v) (plan_number f) (plan_place f) → Told t (sizes m work) B (call.Time v) (Err (fault.Plan f)) ring trial
+    time_refused v f first =
+        let own = first_behind (open_rows t before m.times.now) (event_rows t was v) _ _ open_passed first in
+        record {
+          answers = fronts_first (event_rows t B.register v) _ _ ((shared.event v).first _ _ own);
+          carried = tt;
+          named = none_told t B.register ring (event_rows t was v) (event_under t was v) f own;
+        }
 
-      pub cost_step : (n : ℕ) → n ≡ delay_cost_lem t (register_of t (memory o.numbers r)) (at t m.times.now) → Told t (sizes m) B call.Cost (Ok (answer.Cost n)) ring trial
-      cost_step n e =
-          let P : Lists K → Type 0 = λ x. n ≡ delay_cost_lem t (register_of t (memory o.numbers x)) (at t m.times.now) in
-          record {
-            answers = fronts_pass [] tt;
-            carried = (at t m.times.now, st.shows opened, ap answer.Cost (subst P lent e ∙ (force_shared t was B.register st.same).cost (at t m.times.now)));
-            named = tt;
-          }
+    pub cost_step : (n : ℕ) → n ≡ delay_cost_lem t was (at t m.times.now) → Told t (sizes m work) B call.Cost (Ok (answer.Cost n)) ring trial
+    cost_step n e =
+        record {
+          answers = fronts_pass [] tt;
+          carried = (at t m.times.now, st.shows opened, ap answer.Cost (e ∙ (force_shared t was B.register st.same).cost (at t m.times.now)));
+          named = tt;
+        }
 
-      pub cost_refused : (f : PlanFault) → First (open_rows t (memory o.numbers r) m.times.now) (plan_number f) (plan_place f) → ⊥
-      cost_refused f first =
-          let P : Lists K → Type 0 = λ x. First (open_rows t (memory o.numbers x) m.times.now) (plan_number f) (plan_place f) in
-          first_not_passed (open_rows t before m.times.now) _ _ (subst P lent first) open_passed
+    pub cost_refused : (f : PlanFault) → First (open_rows t before m.times.now) (plan_number f) (plan_place f) → ⊥
+    cost_refused f first = first_not_passed (open_rows t before m.times.now) _ _ first open_passed
 
-      pub setting_step : (s : Switch) (n : ℕ) → Passed (open_rows t (memory o.numbers r) m.times.now ++ switch_rows t (register_of t (memory o.numbers r)) s) → n ≡ setting_of t (register_of t (memory o.numbers r)) s → Told t (sizes m) B (call.Setting s) (Ok (answer.Setting n)) ring trial
-      setting_step s n passed e =
-          let P : Lists K → Type 0 = λ x. Passed (open_rows t (memory o.numbers x) m.times.now ++ switch_rows t (register_of t (memory o.numbers x)) s) × (n ≡ setting_of t (register_of t (memory o.numbers x)) s) in
-          let both = subst P lent (passed, e) in
-          let own = passed_back (open_rows t before m.times.now) (switch_rows t was s) both.0 in
-          record {
-            answers = ((λ no_lists. no_lists listed), (shared.switch s).passed own);
-            carried = ap answer.Setting (both.1 ∙ setting_same t was B.register st.same s own);
-            named = tt;
-          }
+    pub setting_step : (s : Switch) (n : ℕ) → Passed (open_rows t before m.times.now ++ switch_rows t was s) → n ≡ setting_of t was s → Told t (sizes m work) B (call.Setting s) (Ok (answer.Setting n)) ring trial
+    setting_step s n passed e =
+        let own = passed_back (open_rows t before m.times.now) (switch_rows t was s) passed in
+        record {
+          answers = ((λ no_lists. no_lists listed), (shared.switch s).passed own);
+          carried = ap answer.Setting (e ∙ setting_same t was B.register st.same s own);
+          named = tt;
+        }
 
-      pub setting_refused : (s : Switch) (f : PlanFault) → First (open_rows t (memory o.numbers r) m.times.now ++ switch_rows t (register_of t (memory o.numbers r)) s) (plan_number f) (plan_place f) → Told t (sizes m) B (call.Setting s) (Err (fault.Plan f)) ring trial
-      setting_refused s f first =
-          let P : Lists K → Type 0 = λ x. First (open_rows t (memory o.numbers x) m.times.now ++ switch_rows t (register_of t (memory o.numbers x)) s) (plan_number f) (plan_place f) in
-          let own = first_behind (open_rows t before m.times.now) (switch_rows t was s) _ _ open_passed (subst P lent first) in
-          record {
-            answers = inr ((λ no_lists. no_lists listed), (shared.switch s).first _ _ own);
-            carried = tt;
-            named = none_told t B.register ring (switch_rows t was s) (switch_under t was s) f own;
-          }
+    pub setting_refused : (s : Switch) (f : PlanFault) → First (open_rows t before m.times.now ++ switch_rows t was s) (plan_number f) (plan_place f) → Told t (sizes m work) B (call.Setting s) (Err (fault.Plan f)) ring trial
+    setting_refused s f first =
+        let own = first_behind (open_rows t before m.times.now) (switch_rows t was s) _ _ open_passed first in
+        record {
+          answers = inr ((λ no_lists. no_lists listed), (shared.switch s).first _ _ own);
+          carried = tt;
+          named = none_told t B.register ring (switch_rows t was s) (switch_under t was s) f own;
+        }

@@ -8,11 +8,12 @@ use Rattle.network.specs.Network.{Least}
 use Rattle.network.specs.Reckoning.{at}
 use Rattle.network.specs.Refusals.{Row, Passed, First}
 use Rattle.records.specs.declared.Run.{Run}
-use Rattle.records.specs.Lent.{Lists, lists_mut}
+use Rattle.records.specs.Lent.{Lists}
 use Rattle.records.specs.Records.{run_at}
 use Rattle.records.specs.Register.{Register, Memory, register_of}
 use Rattle.records.specs.Stored.{Stored, Limits}
 use Rattle.force.specs.Constraints.{in_force}
+use Rattle.force.specs.declared.work.Work.{Work}
 use Rattle.force.specs.Work.{work_lengths}
 use Rattle.rules.specs.Rows.{Given, hold_rows, release_rows, Over}
 use Rattle.rules.specs.declared.faults.PlanFault.{PlanFault}
@@ -36,7 +37,7 @@ use Rattle.journal.specs.declared.calls.CallFault.TheVariants as fault
 use Rattle.journal.specs.declared.calls.Plan.TheVariants as stage
 use Rattle.journal.specs.declared.memories.Memories.{Memories}
 use Rattle.journal.specs.Books.{Books, taken}
-use Rattle.journal.specs.Memories.{AllListed, sizes, state}
+use Rattle.journal.specs.Memories.{AllListed, sizes, lists_held, state}
 use Rattle.journal.specs.Rows.{call_rows}
 use Rattle.journal.specs.Promise.{Stands, Told}
 use Rattle.network.proofs.Refusals.{passed_more}
@@ -73,33 +74,33 @@ slot_inside [] i x e = absurd (none_some e)
 slot_inside (y ∷ ys) zero x e = omega arith
 slot_inside (y ∷ ys) (suc i) x e = let h = slot_inside ys i x e in omega arith
 
-module _ {K : Type 0} (t : Time K) (laws : Laws t) (o : Open) (m : Memories K) (listed : AllListed (sizes m)) (B : Books K) (st : Stands t B (state (stage.Open o) m)) (ring : List ℕ) (trial : List K) where
+module _ {K : Type 0} (t : Time K) (laws : Laws t) (o : Open) (m : Memories K) (work : Work K) (listed : AllListed (sizes m work)) (B : Books K) (st : Stands t B (state (stage.Open o) m)) (ring : List ℕ) (trial : List K) where
   abbrev before : Memory K
-  before = memory o.numbers (lists_mut m.records)
+  before = memory o.numbers (lists_held m)
 
   abbrev was : Register K
   was = register_of t before
 
   abbrev w : Lengths
-  w = lengths (length m.times.now) (length m.ring.now) (work_lengths m.work)
+  w = lengths (length m.times.now) (length m.ring.now) (work_lengths work)
 
   abbrev rows : List Row
   rows = open_call_rows t w before m.times.now
 
   yes_open : B.opened ≡ true
-  yes_open = opened t laws o m listed B st
+  yes_open = opened t laws o m work listed B st
 
   passes : Passed rows
-  passes = off t laws o m listed B st w listed.work
+  passes = off t laws o m work listed B st w listed.work
 
   good_limits : Limits t B.register
-  good_limits = limits t laws o m listed B st
+  good_limits = limits t laws o m work listed B st
 
   long : length B.register.runs ≡ o.numbers.runs
-  long = long_runs t laws o m listed B st
+  long = long_runs t laws o m work listed B st
 
   length_was : length was.runs ≡ o.numbers.runs
-  length_was = long_was t laws o m listed B st
+  length_was = long_was t laws o m work listed B st
 
   few_runs : o.numbers.runs ≤ 512
   few_runs = st.stored.few_runs
@@ -111,7 +112,7 @@ module _ {K : Type 0} (t : Time K) (laws : Laws t) (o : Open) (m : Memories K) (
   long_books = ap length (sym st.slips) ∙ length_map is_some m.slips.now ∙ long_slips
 
   held_same : (r : ℕ) (until : Option K) → r < o.numbers.runs → Same t (register_of t (hold_memory t before r until)) (hold t B.register r until)
-  held_same r until h = same_trans t _ _ _ ((steps_of t before st.stored (records t laws o m listed B st)).hold r until h) (hold_kept t was B.register st.same r until)
+  held_same r until h = same_trans t _ _ _ ((steps_of t before st.stored (records t laws o m work listed B st)).hold r until h) (hold_kept t was B.register st.same r until)
 
   -- the plan with run r held until a time or free, and its slot so
   slot_stands : (r : ℕ) (until : Option K) (slot : Option Slip) (r' : Lists K) (times' : List K) (slips' : List (Option Slip)) → memory o.numbers r' ≡ hold_memory t before r until → slips' ≡ set m.slips.now r slot
@@ -125,7 +126,7 @@ module _ {K : Type 0} (t : Time K) (laws : Laws t) (o : Open) (m : Memories K) (
       let u = long_slips in
       let slips = m.slips.now in
       let same = held_same r until h in
-      let stored = stored_by t laws o m listed B st (hold_memory t before r until) (hold t B.register r until) refl refl refl same good in
+      let stored = stored_by t laws o m work listed B st (hold_memory t before r until) (hold t B.register r until) refl refl refl same good in
       let P : Memory K → Type 0 = λ v. Stored t v × Same t (register_of t v) (hold t B.register r until) in
       let here : P (memory o.numbers r') = subst P (sym written) (stored, same) in
       record {
@@ -170,22 +171,22 @@ module _ {K : Type 0} (t : Time K) (laws : Laws t) (o : Open) (m : Memories K) (
 
   module _ (r' : Lists K) (times' : List K) where
     pub hold_step : (r : ℕ) (until : K) (s : Slip) (slips' : List (Option Slip)) → Reckons t (rows ++ hold_rows t was r until) (register_of t (hold_memory t before r (Some until))) m.times.now times' m.ring.now ring (took Slip s) → memory o.numbers r' ≡ hold_memory t before r (Some until) → slips' ≡ set m.slips.now r (Some s) → (s.plan ≡ o.numbers.number) × (s.run ≡ r)
-        → Told t (sizes m) B (call.Hold r until) (Ok answer.Done) ring trial × Stands t (taken t B (call.Hold r until)) (state_of (stage.Open o) r' times' slips')
+        → Told t (sizes m work) B (call.Hold r until) (Ok answer.Done) ring trial × Stands t (taken t B (call.Hold r until)) (state_of (stage.Open o) r' times' slips')
     hold_step r until s slips' k written put mine =
         let fine = passed_back rows (hold_rows t was r until) (passed_front (rows ++ hold_rows t was r until) (ring_rows t (register_of t (hold_memory t before r (Some until)))) k.answers) in
         let inside = hold_known r until fine in
         let res = reckoned_taken t rows (hold_rows t was r until) (hold_rows t B.register r until) (register_of t (hold_memory t before r (Some until))) (hold t B.register r (Some until)) passes (hold_match t was B.register st.same r until) (λ _. held_same r (Some until) inside) m.times.now times' m.ring.now ring Slip s k in
-        let good = ((limits_kept_lem t).steps B.register good_limits).holding r until (((shared t laws o m listed B st).hold r until).passed fine) in (
-          record { answers = fronts_pass t laws o m listed B st (hold_rows t B.register r until ++ ring_rows t (hold t B.register r (Some until))) res.0; carried = refl; named = tt },
+        let good = ((limits_kept_lem t).steps B.register good_limits).holding r until (((shared t laws o m work listed B st).hold r until).passed fine) in (
+          record { answers = fronts_pass t laws o m work listed B st (hold_rows t B.register r until ++ ring_rows t (hold t B.register r (Some until))) res.0; carried = refl; named = tt },
           slot_stands r (Some until) (Some s) r' times' slips' written put inside good res.1 ((λ _. tt), (λ _. refl)) (λ x e. (let q = some_same e in (ap (λ y. y.plan) (sym q) ∙ mine.0 ∙ st.number, ap (λ y. y.run) (sym q) ∙ mine.1))),
         )
 
-    pub hold_refused : (r : ℕ) (until : K) (f : PlanFault) → Reckons t (rows ++ hold_rows t was r until) (register_of t (hold_memory t before r (Some until))) m.times.now times' m.ring.now ring (failed Slip f) → r' ≡ lists_mut m.records
-        → Told t (sizes m) B (call.Hold r until) (Err (fault.Plan f)) ring trial × Stands t B (state_of (stage.Open o) r' times' m.slips.now)
+    pub hold_refused : (r : ℕ) (until : K) (f : PlanFault) → Reckons t (rows ++ hold_rows t was r until) (register_of t (hold_memory t before r (Some until))) m.times.now times' m.ring.now ring (failed Slip f) → r' ≡ lists_held m
+        → Told t (sizes m work) B (call.Hold r until) (Err (fault.Plan f)) ring trial × Stands t B (state_of (stage.Open o) r' times' m.slips.now)
     hold_refused r until f k e =
         let own : Register K → List Row = λ R. hold_rows t R r until in (
-          control_refused t laws o m listed B st ring trial w listed.work (call.Hold r until) own (register_of t (hold_memory t before r (Some until))) (hold t B.register r (Some until)) refl refl (hold_match t was B.register st.same r until) (hold_under t was r until) (λ fine. held_same r (Some until) (hold_known r until fine)) Slip f m.times.now times' k,
-          open_kept t laws o m listed B st r' times' e k.shows,
+          control_refused t laws o m work listed B st ring trial w listed.work (call.Hold r until) own (register_of t (hold_memory t before r (Some until))) (hold t B.register r (Some until)) refl refl (hold_match t was B.register st.same r until) (hold_under t was r until) (λ fine. held_same r (Some until) (hold_known r until fine)) Slip f m.times.now times' k,
+          open_kept t laws o m work listed B st r' times' e k.shows,
         )
 
   module _ (r : ℕ) (s : Slip) (slot : get_or m.slips.now r None ≡ Some s) where
@@ -219,25 +220,25 @@ module _ {K : Type 0} (t : Time K) (laws : Laws t) (o : Open) (m : Memories K) (
         let P : ℕ → Type 0 = λ k. Same t (register_of t (hold_memory t before k None)) (hold t B.register r None) in
         subst P (sym mine.1) (held_same r None inside)
 
-    passes_on : Passed (ring_rows t (hold t B.register r None)) → Passed (call_rows t (sizes m) B (call.Release r))
+    passes_on : Passed (ring_rows t (hold t B.register r None)) → Passed (call_rows t (sizes m work) B (call.Release r))
     passes_on p = ((λ e. false≢true (sym e ∙ yes_open)), ((λ e. false≢true (sym e ∙ full)), ((λ no_lists. no_lists listed), p)))
 
-    first_on : (n p : ℕ) → First (ring_rows t (hold t B.register r None)) n p → First (call_rows t (sizes m) B (call.Release r)) n p
+    first_on : (n p : ℕ) → First (ring_rows t (hold t B.register r None)) n p → First (call_rows t (sizes m work) B (call.Release r)) n p
     first_on n p f = inr ((λ e. false≢true (sym e ∙ yes_open)), inr ((λ e. false≢true (sym e ∙ full)), inr ((λ no_lists. no_lists listed), f)))
 
     module _ (r' : Lists K) (times' : List K) (slips' : List (Option Slip)) where
       pub release_step : Reckons t (rows ++ release_rows t was o.numbers.number s.plan s.run) (register_of t (hold_memory t before s.run None)) m.times.now times' m.ring.now ring (took (Unit {0}) tt) → memory o.numbers r' ≡ hold_memory t before s.run None → slips' ≡ set m.slips.now r None
-          → Told t (sizes m) B (call.Release r) (Ok answer.Done) ring trial × Stands t (taken t B (call.Release r)) (state_of (stage.Open o) r' times' slips')
+          → Told t (sizes m work) B (call.Release r) (Ok answer.Done) ring trial × Stands t (taken t B (call.Release r)) (state_of (stage.Open o) r' times' slips')
       release_step k written left =
           let res = reckoned_taken t (rows ++ release_rows t was o.numbers.number s.plan s.run) [] [] (register_of t (hold_memory t before s.run None)) (hold t B.register r None) release_off tt (λ _. freed) m.times.now times' m.ring.now ring (Unit {0}) tt k in
-          let good = ((limits_kept_lem t).steps B.register good_limits).releasing o.numbers.number s.plan r (((shared t laws o m listed B st).release o.numbers.number s.plan r).passed (let P : ℕ → Type 0 = λ q. Passed (release_rows t was o.numbers.number s.plan q) in subst P mine.1 release_passes)) in (
+          let good = ((limits_kept_lem t).steps B.register good_limits).releasing o.numbers.number s.plan r (((shared t laws o m work listed B st).release o.numbers.number s.plan r).passed (let P : ℕ → Type 0 = λ q. Passed (release_rows t was o.numbers.number s.plan q) in subst P mine.1 release_passes)) in (
             record { answers = passes_on res.0; carried = refl; named = tt },
             slot_stands r None None r' times' slips' (written ∙ ap (λ q. hold_memory t before q None) mine.1) left inside good res.1 ((λ e. absurd (false≢true e)), (λ none. absurd none)) (λ x e. absurd (none_some e)),
           )
 
       -- refused, the slip is back in its slot
-      pub release_refused : (x : Slip) (f : PlanFault) (picked : List (Option Slip)) → Reckons t (rows ++ release_rows t was o.numbers.number s.plan s.run) (register_of t (hold_memory t before s.run None)) m.times.now times' m.ring.now ring (failed (Unit {0}) f) → r' ≡ lists_mut m.records → x ≡ s → picked ≡ set m.slips.now r None → slips' ≡ set picked r (Some x)
-          → Told t (sizes m) B (call.Release r) (Err (fault.Plan f)) ring trial × Stands t B (state_of (stage.Open o) r' times' slips')
+      pub release_refused : (x : Slip) (f : PlanFault) (picked : List (Option Slip)) → Reckons t (rows ++ release_rows t was o.numbers.number s.plan s.run) (register_of t (hold_memory t before s.run None)) m.times.now times' m.ring.now ring (failed (Unit {0}) f) → r' ≡ lists_held m → x ≡ s → picked ≡ set m.slips.now r None → slips' ≡ set picked r (Some x)
+          → Told t (sizes m work) B (call.Release r) (Err (fault.Plan f)) ring trial × Stands t B (state_of (stage.Open o) r' times' slips')
       release_refused x f picked k e is left put =
           let res = reckoned_refused t (rows ++ release_rows t was o.numbers.number s.plan s.run) [] [] (register_of t (hold_memory t before s.run None)) (hold t B.register r None) release_off tt (λ _. freed) m.times.now times' m.ring.now ring tt (Unit {0}) f k in
           let back = put ∙ ap (λ ss. set ss r (Some x)) left ∙ ap (λ y. set (set m.slips.now r None) r (Some y)) is ∙ set-set m.slips.now r None (Some s) ∙ ap (set m.slips.now r) (sym slot) ∙ set-get_or m.slips.now r None in (
@@ -246,13 +247,13 @@ module _ {K : Type 0} (t : Time K) (laws : Laws t) (o : Open) (m : Memories K) (
           )
 
   -- a run whose slip is kept is held already
-  pub hold_again : (r : ℕ) (until : K) → is_some (get_or m.slips.now r None) ≡ true → (Over t until → ⊥) → Told t (sizes m) B (call.Hold r until) (Err (fault.Plan refused.Already)) ring trial
+  pub hold_again : (r : ℕ) (until : K) → is_some (get_or m.slips.now r None) ≡ true → (Over t until → ⊥) → Told t (sizes m work) B (call.Hold r until) (Err (fault.Plan refused.Already)) ring trial
   hold_again r until some fits =
       let s = some_of (get_or m.slips.now r None) some in
       let inside = (mine r s.0 s.1).2 in
       let own = hold_rows t B.register r until ++ ring_rows t (hold t B.register r (Some until)) in
       record {
-        answers = fronts_first t laws o m listed B st own 8 0 (inr ((λ past. omega arith), inr (fits, inl ((st.held yes_open r inside).0 (full r s.0 s.1), refl, refl))));
+        answers = fronts_first t laws o m work listed B st own 8 0 (inr ((λ past. omega arith), inr (fits, inl ((st.held yes_open r inside).0 (full r s.0 s.1), refl, refl))));
         carried = tt;
         named = tt;
       }

@@ -1,25 +1,30 @@
 //! The calls of a list on an open plan.
 ghost use Rattle.std.specs.Prelude.{◌≡◌};
+ghost use Rattle.force.specs.Work.{SameWork};
 ghost use Rattle.journal.specs.declared.calls.Plan.TheVariants as stage;
 ghost use Rattle.journal.specs.Memories.{AllListed, SameMemories, sizes, state};
 ghost use Rattle.journal.specs.Promise.{Step};
 
 use crate::slips::{kept_slip, pick_slip, put_slip};
 use crate::{Answer, Call, CallFault, Memories};
+use force::Work;
 use kinds::Kind;
 use plan::{Open, Unreleased};
+use records::Records;
 use rules::{PlanFault, TIME_SIZE};
 
 // Holds a run; its slip goes into its slot.
 fn open_hold<K: Kind>(
     plan: &Open,
     memories: &mut Memories<'_, K>,
+    work: &mut Work<'_, K>,
     run: u16,
     until: K,
 ) -> Result<Answer<K>, CallFault>
-    requires listed { AllListed (sizes memories.old) }
-    ensures step { Step K.Kind.time (sizes memories.old) (state (stage.Open plan.now) memories.old) (Call.Hold run until) result memories.new.ring.now memories.new.trial.now (state (stage.Open plan.now) memories.new) }
+    requires listed { AllListed (sizes memories.old work.old) }
+    ensures step { Step K.Kind.time (sizes memories.old work.old) (state (stage.Open plan.now) memories.old) (Call.Hold run until) result memories.new.ring.now memories.new.trial.now (state (stage.Open plan.now) memories.new) }
     ensures same { SameMemories memories.old memories.new }
+    ensures work { SameWork work.old work.new }
 {
     // Lent by itself, so that what it holds stays known.
     let slips = &mut *memories.slips;
@@ -29,11 +34,18 @@ fn open_hold<K: Kind>(
         }
         return Err(CallFault::Plan(PlanFault::Already));
     }
+    // Lent one by one, so that some are read while others are written.
+    let tracks = &mut *memories.tracks;
+    let connections = &mut *memories.connections;
+    let settings = &mut *memories.settings;
     let slip = plan.hold(
-        &mut memories.records,
+        tracks,
+        memories.runs,
+        connections,
+        settings,
         memories.times,
         memories.ring,
-        &mut memories.work,
+        work,
         run,
         until,
     )?;
@@ -45,21 +57,30 @@ fn open_hold<K: Kind>(
 fn open_release<K: Kind>(
     plan: &Open,
     memories: &mut Memories<'_, K>,
+    work: &mut Work<'_, K>,
     run: u16,
 ) -> Result<Answer<K>, CallFault>
-    requires listed { AllListed (sizes memories.old) }
-    ensures step { Step K.Kind.time (sizes memories.old) (state (stage.Open plan.now) memories.old) (Call.Release run) result memories.new.ring.now memories.new.trial.now (state (stage.Open plan.now) memories.new) }
+    requires listed { AllListed (sizes memories.old work.old) }
+    ensures step { Step K.Kind.time (sizes memories.old work.old) (state (stage.Open plan.now) memories.old) (Call.Release run) result memories.new.ring.now memories.new.trial.now (state (stage.Open plan.now) memories.new) }
     ensures same { SameMemories memories.old memories.new }
+    ensures work { SameWork work.old work.new }
 {
     let slips = &mut *memories.slips;
     let Some(slip) = pick_slip(slips, run) else {
         return Err(CallFault::Misuse);
     };
+    // Lent one by one, so that some are read while others are written.
+    let tracks = &mut *memories.tracks;
+    let connections = &mut *memories.connections;
+    let settings = &mut *memories.settings;
     match plan.release(
-        &mut memories.records,
+        tracks,
+        memories.runs,
+        connections,
+        settings,
         memories.times,
         memories.ring,
-        &mut memories.work,
+        work,
         slip,
     ) {
         Ok(()) => Ok(Answer::Done),
@@ -75,19 +96,31 @@ fn open_release<K: Kind>(
 pub(crate) fn in_open<K: Kind>(
     plan: &Open,
     memories: &mut Memories<'_, K>,
+    work: &mut Work<'_, K>,
     call: Call<K>,
 ) -> Result<Answer<K>, CallFault>
-    requires listed { AllListed (sizes memories.old) }
-    ensures step { Step K.Kind.time (sizes memories.old) (state (stage.Open plan.now) memories.old) call result memories.new.ring.now memories.new.trial.now (state (stage.Open plan.now) memories.new) }
+    requires listed { AllListed (sizes memories.old work.old) }
+    ensures step { Step K.Kind.time (sizes memories.old work.old) (state (stage.Open plan.now) memories.old) call result memories.new.ring.now memories.new.trial.now (state (stage.Open plan.now) memories.new) }
     ensures same { SameMemories memories.old memories.new }
+    ensures work { SameWork work.old work.new }
 {
+    // Lent one by one, so that some are read while others are written.
+    let tracks = &mut *memories.tracks;
+    let runs = &mut *memories.runs;
+    let connections = &mut *memories.connections;
+    let settings = &mut *memories.settings;
+    let times = &mut *memories.times;
+    let ring = &mut *memories.ring;
     match call {
         Call::Report { event, at } => {
             plan.report(
-                &mut memories.records,
-                memories.times,
-                memories.ring,
-                &mut memories.work,
+                tracks,
+                runs,
+                connections,
+                settings,
+                times,
+                ring,
+                work,
                 event,
                 at,
             )?;
@@ -95,41 +128,62 @@ pub(crate) fn in_open<K: Kind>(
         }
         Call::Turn { switch, setting } => {
             plan.turn(
-                &mut memories.records,
-                memories.times,
-                memories.ring,
-                &mut memories.work,
+                tracks,
+                runs,
+                connections,
+                settings,
+                times,
+                ring,
+                work,
                 switch,
                 setting,
             )?;
             Ok(Answer::Done)
         }
-        Call::Hold { run, until } => open_hold(plan, memories, run, until),
-        Call::Release { run } => open_release(plan, memories, run),
+        Call::Hold { run, until } => open_hold(plan, memories, work, run, until),
+        Call::Release { run } => open_release(plan, memories, work, run),
         Call::Trial { switch, setting } => {
-            let times = &mut *memories.times;
+            let trial = &mut *memories.trial;
             let cost = plan.trial(
-                &mut memories.records,
+                tracks,
+                runs,
+                connections,
+                settings,
                 times,
-                memories.trial,
-                memories.ring,
-                &mut memories.work,
+                trial,
+                ring,
+                work,
                 switch,
                 setting,
             )?;
             Ok(Answer::Cost(cost))
         }
         Call::Time { event } => {
-            let times = &mut *memories.times;
-            Ok(Answer::Time(plan.time(memories.records.lent(), times, event)?))
+            let records = Records {
+                tracks,
+                runs,
+                connections,
+                settings,
+            };
+            Ok(Answer::Time(plan.time(records, times, event)?))
         }
         Call::Setting { switch } => {
-            let times = &mut *memories.times;
-            Ok(Answer::Setting(plan.setting(memories.records.lent(), times, switch)?))
+            let records = Records {
+                tracks,
+                runs,
+                connections,
+                settings,
+            };
+            Ok(Answer::Setting(plan.setting(records, times, switch)?))
         }
         Call::Cost => {
-            let times = &mut *memories.times;
-            Ok(Answer::Cost(plan.cost(memories.records.lent(), times)?))
+            let records = Records {
+                tracks,
+                runs,
+                connections,
+                settings,
+            };
+            Ok(Answer::Cost(plan.cost(records, times)?))
         }
         Call::Track { .. }
         | Call::Run { .. }

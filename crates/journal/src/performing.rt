@@ -1,6 +1,7 @@
 //! One call of a list, performed.
 ghost use Rattle.std.specs.Prelude.{◌≡◌, true, false, map, is_some};
 ghost use Rattle.network.specs.Refusals.{First};
+ghost use Rattle.force.specs.Work.{SameWork};
 ghost use Rattle.journal.specs.Books.{Books};
 ghost use Rattle.journal.specs.Memories.{Sizes, AllListed, SameMemories, sizes, state};
 ghost use Rattle.journal.specs.Rows.{call_rows};
@@ -10,6 +11,7 @@ use crate::control::in_open;
 use crate::drafting::{in_draft, open_draft};
 use crate::slips::kept_slip;
 use crate::{Answer, Call, CallFault, Memories, Plan};
+use force::Work;
 use kinds::Kind;
 use plan::Slip;
 use rules::PlanFault;
@@ -40,12 +42,14 @@ fn misused<K: Kind>(plan: &Plan, slips: &[Option<Slip>], call: Call<K>) -> bool
 pub fn perform<K: Kind>(
     plan: Plan,
     memories: &mut Memories<'_, K>,
+    work: &mut Work<'_, K>,
     call: Call<K>,
 ) -> (Plan, Result<Answer<K>, CallFault>)
-    ensures step { Step K.Kind.time (sizes memories.old) (state plan memories.old) call result.1 memories.new.ring.now memories.new.trial.now (state result.0 memories.new) }
+    ensures step { Step K.Kind.time (sizes memories.old work.old) (state plan memories.old) call result.1 memories.new.ring.now memories.new.trial.now (state result.0 memories.new) }
     ensures same { SameMemories memories.old memories.new }
+    ensures work { SameWork work.old work.new }
 {
-    if !memories.is_listed() {
+    if !memories.is_listed(work) {
         // Lent by itself, so that what it holds stays known.
         let slips = &mut *memories.slips;
         if misused(&plan, slips, call) {
@@ -56,13 +60,13 @@ pub fn perform<K: Kind>(
     match plan {
         Plan::Draft(mut draft) => {
             if let Call::Open = call {
-                return open_draft(draft, memories);
+                return open_draft(draft, memories, work);
             }
             let reply = in_draft(&mut draft, memories, call);
             (Plan::Draft(draft), reply)
         }
         Plan::Open(open) => {
-            let reply = in_open(&open, memories, call);
+            let reply = in_open(&open, memories, work, call);
             (Plan::Open(open), reply)
         }
     }

@@ -1,7 +1,8 @@
-use Rattle.std.proofs.Common.{◌≡◌, get_or, Some, None, sym, ap, ◌∙◌}
+use Rattle.std.proofs.Common.{◌≡◌, get_or, Some, None, sym, refl, ap, ◌∙◌}
 use Rattle.std.proofs.lemmas.List.{get_or-set_same}
-use Rattle.records.specs.Lent.{lists_mut}
+use Rattle.plan.specs.States.{lists}
 use Rattle.journal.proofs.Holds.{slot_inside, release_step, release_refused}
+use Rattle.journal.proofs.States.{same_lists}
 use Rattle.journal.proofs.control.open_release.Goals as goal
 
 pub put_slip-requires-clause-free : goal.put_slip-requires-clause-free
@@ -15,7 +16,7 @@ returns-in-Ok-clause-step g c =
     let m = c.args.memories.now in
     let was : get_or m.slips.now c.args.run None ≡ Some c.in-Some.slip = sym c.pick_slip.ensures.was ∙ c.in-Some.is in
     let k = c.in-Ok.ensures in
-    λ B st. release_step g.K.Kind.time g.met.K.Kind.laws c.args.plan.now m c.requires.listed B st c.release.new.ring m.trial.now c.args.run c.in-Some.slip was (lists_mut c.release.new.records) c.release.new.times c.pick_slip.new.slips k.reckons k.records c.pick_slip.ensures.left
+    λ B st. release_step g.K.Kind.time g.met.K.Kind.laws c.args.plan.now m c.args.work.now c.requires.listed B st c.release.new.ring m.trial.now c.args.run c.in-Some.slip was (lists m.tracks.now c.release.new.runs m.connections.now m.settings.now) c.release.new.times c.pick_slip.new.slips k.reckons k.records c.pick_slip.ensures.left
 
 pub returns-in-Err-clause-step : goal.returns-in-Err-clause-step
 returns-in-Err-clause-step g c =
@@ -23,4 +24,4 @@ returns-in-Err-clause-step g c =
     let was : get_or m.slips.now c.args.run None ≡ Some c.in-Some.slip = sym c.pick_slip.ensures.was ∙ c.in-Some.is in
     let u = c.in-Err.field-0 in
     let k = c.in-Err.ensures in
-    λ B st. release_refused g.K.Kind.time g.met.K.Kind.laws c.args.plan.now m c.requires.listed B st c.release.new.ring m.trial.now c.args.run c.in-Some.slip was (lists_mut c.release.new.records) c.release.new.times c.put_slip.new.slips u.slip u.fault c.pick_slip.new.slips k.reckons k.records k.slip c.pick_slip.ensures.left c.put_slip.ensures
+    λ B st. release_refused g.K.Kind.time g.met.K.Kind.laws c.args.plan.now m c.args.work.now c.requires.listed B st c.release.new.ring m.trial.now c.args.run c.in-Some.slip was (lists m.tracks.now c.release.new.runs m.connections.now m.settings.now) c.release.new.times c.put_slip.new.slips u.slip u.fault c.pick_slip.new.slips k.reckons (same_lists refl k.records refl refl) k.slip c.pick_slip.ensures.left c.put_slip.ensures

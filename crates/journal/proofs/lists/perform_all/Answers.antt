@@ -6,7 +6,7 @@ use Rattle.journal.specs.Books.{new}
 use Rattle.journal.specs.Memories.{sizes, state}
 use Rattle.journal.specs.Promise.{Stands, Steps, Step}
 use Rattle.journal.proofs.Journals.{step_more, calls_kept, new_stands}
-use Rattle.journal.proofs.States.{same_on}
+use Rattle.journal.proofs.States.{same_sizes, same_on, same_work_on}
 use Rattle.journal.proofs.lists.perform_all.Goals as goal
 
 pub loop-line-preserved : goal.loop-line-preserved
@@ -19,18 +19,19 @@ loop-line-preserved g c =
     let x : Line g.row.K.Denot = record { call = d.call; reply = p.result.1 } in
     let h : i.line-index < length i.journal = omega arith in
     let later = state p.result.0 p.new.memories in
-    let P : Plan → Type 0 = λ q. Step t (sizes i.memories) (state q i.memories) d.call p.result.1 p.new.memories.ring.now p.new.memories.trial.now later in
+    let P : Plan → Type 0 = λ q. Step t (sizes i.memories i.work) (state q i.memories) d.call p.result.1 p.new.memories.ring.now p.new.memories.trial.now later in
     let step : P i.plan = subst P c.replace-current.ensures.value p.ensures.step in
     record {
       calls = calls_kept i.journal i.line-index c.line-item.result x refl ∙ i.invariant.calls;
-      steps = step_more t (sizes a.memories.now) (sizes i.memories) i.journal i.line-index x p.new.memories.ring.now p.new.memories.trial.now (state a.plan.now a.memories.now) (state i.plan i.memories) later h i.invariant.same.long i.invariant.steps step;
+      steps = step_more t (sizes a.memories.now a.work.now) (sizes i.memories i.work) i.journal i.line-index x p.new.memories.ring.now p.new.memories.trial.now (state a.plan.now a.memories.now) (state i.plan i.memories) later h (same_sizes a.memories.now i.memories a.work.now i.work i.invariant.same i.invariant.work) i.invariant.steps step;
       same = same_on a.memories.now i.memories p.new.memories i.invariant.same p.ensures.same;
+      work = same_work_on a.work.now i.work p.new.work i.invariant.work p.ensures.work;
     }
 
 pub returns-clause-steps : goal.returns-clause-steps
 returns-clause-steps g c =
     let i = c.loop-line in
-    let P : List (Line g.row.K.Denot) → Type 0 = λ lines. Steps g.K.Kind.time (sizes c.args.memories.now) (state c.args.plan.now c.args.memories.now) lines (state i.plan i.memories) in
+    let P : List (Line g.row.K.Denot) → Type 0 = λ lines. Steps g.K.Kind.time (sizes c.args.memories.now c.args.work.now) (state c.args.plan.now c.args.memories.now) lines (state i.plan i.memories) in
     subst P (take_all i.line-index i.journal (omega arith)) i.invariant.steps
 
 pub returns-clause-fresh : goal.returns-clause-fresh
