@@ -97,9 +97,7 @@ pub struct View<'t, 'r, 'c, 's, K> {
 }
 
 /// What is entered of a view, and all of its settings.
-pub fn entered<'t, 'r, 'c, 's, K: Kind>(
-    v: View<'t, 'r, 'c, 's, K>,
-) -> Records<'t, 'r, 'c, 's, K>
+pub fn entered<'t, 'r, 'c, 's, K: Kind>(v: View<'t, 'r, 'c, 's, K>) -> Records<'t, 'r, 'c, 's, K>
     requires { (v.track_count ≤ length v.tracks.now) × ((v.run_count ≤ length v.runs.now) × (v.connection_count ≤ length v.connections.now)) }
     ensures { lists_in result ≡ lists_entered (seen v.entry) }
 {

@@ -59,7 +59,10 @@ pub fn check_draft<'v, K: Kind>(v: View<'v, 'v, 'v, 'v, K>) -> Result<Entered<'v
 }
 
 /// What every call on an open plan refuses first. Taken, what is entered.
-pub fn check_open<'v, K: Kind>(v: View<'v, 'v, 'v, 'v, K>, shown: &[K]) -> Result<Entered<'v, K>, PlanFault>
+pub fn check_open<'v, K: Kind>(
+    v: View<'v, 'v, 'v, 'v, K>,
+    shown: &[K],
+) -> Result<Entered<'v, K>, PlanFault>
     ensures rows { PlanAnswers (open_rows K.Kind.time (seen v.entry) shown.now) result }
     ensures sound { OnOk result (SoundOpen K.Kind.time (seen v.entry) shown.now) }
     ensures taken { IfOk result (TakenFrom K.Kind.time (seen v.entry)) }

@@ -3,7 +3,6 @@ use lib.Seq.{set-get_or}
 use Rattle.records.specs.declared.Run.{Run}
 use Rattle.records.specs.Register.{register_of}
 use Rattle.plan.specs.States.{memory, lists}
-use Rattle.plan.specs.Steps.{with_runs}
 use Rattle.plan.proofs.Reckoned.{taken, failed, reckons}
 use Rattle.plan.proofs.changes.replace_run.Goals as goal
 
