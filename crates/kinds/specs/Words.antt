@@ -1,5 +1,5 @@
 -- How times are written as words, and what reading a word answers. Assumes nothing.
-use Rattle.std.specs.Prelude.{ℕ, ◌^◌, ◌<◌, ◌==◌, ◌↔◌, List, ◌++◌, Result, IsErrOf, Contains, decimal, codes, FitsSigned}
+use Rattle.std.specs.Prelude.{ℕ, ◌^◌, ◌<◌, ◌==◌, ◌↔◌, List, ◌++◌, Result, IsErrOf, Some, None, Option, Contains, decimal, codes, FitsSigned}
 use Rattle.std.specs.Int.{w32}
 use Rattle.std.specs.Fmt.{signed_decimal}
 use Rattle.std.specs.List.{before_first, after_first}
@@ -9,6 +9,7 @@ use Rattle.kinds.specs.declared.Seconds.{Seconds}
 use Rattle.kinds.specs.declared.Changes.{Changes}
 use Rattle.kinds.specs.declared.words.ChangesError.{ChangesError}
 use Rattle.kinds.specs.declared.words.ChangesError.TheVariants.{NoSlash}
+use Rattle.kinds.specs.declared.words.ChangesError.TheVariants as error
 
 -- the seconds in decimal, as 123 and -5
 abbrev pub seconds_word : Seconds → List ℕ
@@ -52,3 +53,8 @@ changes_of word = record { seconds = signed_digits_value 10 (front word); count 
 pub record ReadsChanges (word : List ℕ) (r : Result Changes ChangesError) : Type 0 where
   pub changes : OkIff r (IsChanges word) (changes_of word)
   pub no_slash : IsErrOf r NoSlash ↔ (¬ Contains word slash)
+
+-- What is printed of such an error. Of a number that is none it is the library's own words, of which the library states nothing.
+abbrev pub changes_error_text : ChangesError → Option (List ℕ)
+changes_error_text error.NoSlash = Some (codes "no slash parts the seconds from the count")
+changes_error_text (error.Number fault) = None

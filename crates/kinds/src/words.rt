@@ -1,6 +1,6 @@
 //! Times as words of a text: how each kind is written, and read back.
 ghost use Rattle.std.specs.Prelude.{◌≡◌, Some};
-ghost use Rattle.kinds.specs.Words.{seconds_word, changes_word, ReadsSeconds, ReadsChanges};
+ghost use Rattle.kinds.specs.Words.{seconds_word, changes_word, changes_error_text, ReadsSeconds, ReadsChanges};
 
 use crate::{Changes, Seconds};
 use std::error::Error;
@@ -67,6 +67,8 @@ impl From<ParseIntError> for ChangesError {
 }
 
 impl fmt::Display for ChangesError {
+    ghost output = { λ e. changes_error_text e };
+
     fn fmt<W: fmt::Write>(&self, f: &mut fmt::Formatter<W>) -> fmt::Result {
         match self {
             ChangesError::NoSlash => write!(f, "no slash parts the seconds from the count"),
