@@ -10,7 +10,7 @@ use Rattle.records.specs.declared.Connection.{Connection}
 use Rattle.records.specs.Places.{Ordered}
 use Rattle.records.specs.Register.{Register}
 use Rattle.records.specs.Stored.{Limits}
-use Rattle.force.specs.Force.{run_in, track_in, track_under, connection_in}
+use Rattle.force.specs.Force.{arrival_of, run_in, track_in, track_under, connection_in}
 use Rattle.force.specs.Constraints.{in_force}
 use Rattle.cost.specs.Cost.{late_cost_lem, break_cost, turn_cost, turn_costs, delay_cost_lem}
 use Rattle.cost.proofs.Sums.{sum_same, sum_mono}
@@ -27,6 +27,13 @@ module _ {K : Type 0} (t : Time K) where
       let up = least.least other table meets (2 * r + 1) inside in
       let m = laws.late_mono (time (2 * r + 1)) (other (2 * r + 1)) (run_in t R r).arrival (omega arith) (omega arith) up in
       mul-le _ _ (run_in t R r).weight _ (omega arith) m)) in
+      omega arith
+
+  -- only the times of the arrivals of entered runs count
+  pub cost_same : (R : Register K) (time other : ℕ → K) → ((v : ℕ) → v < 2 * length R.runs → time v ≡ other v) → delay_cost_lem t R time ≡ delay_cost_lem t R other
+  cost_same R time other same =
+      let late = sum_same (late_cost_lem t R time) (late_cost_lem t R other) (length R.runs) (λ r h.
+      ap (λ x. (run_in t R r).weight * t.late x (run_in t R r).arrival) (same (arrival_of r) (omega arith))) in
       omega arith
 
   turn_same : (R : Register K) (order : ℕ → ℕ → ℕ) (j i : ℕ) → (track_in t R i ≡ track_in t R j → R.order i j ≡ order i j) → turn_cost t R j i ≡ cond (eqb (track_in t R i) (track_in t R j) && eqb (order i j) 1) (track_under t R j).penalty 0

@@ -14,7 +14,7 @@ use Rattle.cost.proofs.Sums.{sum_still}
 
 module _ {K : Type 0} (t : Time K) (R : Register K) (j : ℕ) where
   -- a run on another track costs nothing
-  turn_none : (i : ℕ) → track_in t R i ≢ track_in t R j → turn_cost t R j i ≡ 0
+  pub turn_none : (i : ℕ) → track_in t R i ≢ track_in t R j → turn_cost t R j i ≡ 0
   turn_none i off = let e = ne_eqb (track_in t R i) (track_in t R j) off in rw e refl
 
   -- what lies between the runs of the walk costs nothing

@@ -66,5 +66,9 @@ module _ {K : Type 0} (t : Time K) where
       ])
       (added_then (Among C p j) (C i) l m n h one)
 
+  -- a loop before its first turn
+  pub added_start : (C : ℕ → Arc K → Type 0) (l : ArcList K) (low high : ℕ) → high ≤ low → Added t (Among C low high) l l
+  added_start C l low high h = added_none (Among C low high) l (λ a x. omega (arith, x.1.0, x.1.1))
+
   pub listed : (P : Arc K → Type 0) (l m : ArcList K) → l.count ≡ 0 → Added t P l m → Listed t P m.arcs.now m.count
   listed P l m e h = record { each = λ k i. h.each k (omega arith) i; all = λ a p. (let r = h.all a p in (r.0, (r.1.1, r.1.2))) }

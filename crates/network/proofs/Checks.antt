@@ -1,13 +1,17 @@
 -- What is known of a network once no refusal applies.
-use Rattle.std.proofs.Common.{◌≡◌, ℕ, ◌<◌, ◌≤◌, min, List, length, take, sym, ap, ◌∙◌, inl, inr, arith}
+use Rattle.std.proofs.Common.{◌≡◌, ℕ, ◌<◌, ◌≤◌, min, List, length, take, sym, refl, ap, ◌∙◌, inl, inr, arith}
 use Rattle.std.proofs.lemmas.Bool.{cases_eq, cases_lt}
 use Rattle.std.proofs.lemmas.List.{length-take-le, take_all}
 use Rattle.kinds.specs.Time.{Time}
 use Rattle.network.specs.declared.Arc.{Arc}
-use Rattle.network.specs.Refusals.{Passed}
-use Rattle.network.specs.Reckoning.{arc_at, Lengths, length_rows, lengths_of, network_rows, Handed, kept_floors, first_rows, Stray}
+use Rattle.network.specs.declared.faults.NetworkFault.{NetworkFault}
+use Rattle.network.specs.declared.faults.NetworkFault.TheVariants as fault
+use Rattle.network.specs.Refusals.{Passed, First}
+use Rattle.network.specs.Faults.{network_number, network_place}
+use Rattle.network.specs.Reckoning.{arc_at, Lengths, length_rows, lengths_of, network_rows, Listed, Handed, kept_floors, first_rows, RingAfter, Stray}
 use Rattle.network.specs.Rounds.{InLimits}
 use Rattle.network.proofs.Strays.{some_at}
+use Rattle.network.proofs.Refusals.{first_under}
 
 stable : (a b : ℕ) → ((a ≡ b → ⊥) → ⊥) → a ≡ b
 stable a b f = elim (cases_eq a b) [ inl e ↦ e | inr ne ↦ absurd (f ne) ]
@@ -54,6 +58,15 @@ module _ {K : Type 0} (t : Time K) where
       let long = lengthy (lengths_of h) (p.0, (p.1.0, (p.1.1.0, (p.1.1.1.0, (p.1.1.1.1.0, (p.1.1.1.1.1.0, tt)))))) in
       let few = not_over h.network.events 1024 p.1.1.1.1.1.1.1.1.1.0 in
       record { lengths = long; few = few; events = length-take-le h.network.events h.network.floors (omega arith) }
+
+  -- no fault before the reckoning is a ring
+  pub not_ring : (h : Handed K) (l : Listed K) (ring : List ℕ) (f : NetworkFault) → First (first_rows t h) (network_number f) (network_place f) → RingAfter t l ring ring f
+  not_ring h l ring fault.Length r = refl
+  not_ring h l ring (fault.Event place) r = refl
+  not_ring h l ring fault.Floor r = refl
+  not_ring h l ring fault.Duration r = refl
+  not_ring h l ring fault.Count r = refl
+  not_ring h l ring (fault.Ring count) r = absurd (first_under 12 (first_rows t h) 0 (omega arith, (omega arith, (omega arith, (omega arith, (omega arith, (omega arith, (omega arith, (omega arith, (omega arith, (omega arith, (omega arith, tt))))))))))) r)
 
 -- as many as there are
 pub take_min : {X : Type 0} (k n : ℕ) (xs : List X) → length xs ≡ n → take (min k n) xs ≡ take k xs

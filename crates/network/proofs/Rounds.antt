@@ -1,7 +1,7 @@
 -- One arc more in a round.
 use Rattle.std.proofs.Common.{◌≡◌, ℕ, ◌+◌, ◌<◌, ◌≤◌, leb, ◌≢◌, List, length, get_or, set, Some, None, sym, refl, ◌∙◌, inl, inr, arith, below_more}
 use Rattle.std.proofs.lemmas.List.{get_or-set_same, get_or-set_other, get_or_read}
-use Rattle.std.proofs.lemmas.Bool.{cases_eq, cases_cond}
+use Rattle.std.proofs.lemmas.Bool.{cases_eq, le-leb, cond-true, cases_cond}
 use Rattle.kinds.specs.Time.{Time, Laws}
 use Rattle.network.specs.declared.Arc.{Arc}
 use Rattle.kinds.specs.Time.{within}
@@ -16,6 +16,11 @@ some_is n x z e = elim (cases_cond (leb n 400000000) (Some z) None (Some x) e) [
   | inl p ↦ cc
   | inr p ↦ let z : ◌≡◌ {A = ℕ} 0 1 = cc in absurd (omega arith)
 ]
+
+pub none_not : {A : Type 0} (n : ℕ) (z : A) → n ≤ 400000000 → None ≡ within n z → ⊥
+none_not n z h e =
+    let s = e ∙ cond-true (leb n 400000000) (Some z) None (le-leb n 400000000 h) in
+    let z : ◌≡◌ {A = ℕ} 0 1 = cc in omega arith
 
 -- sound over a table as long as the floors
 pub sound_at : {K : Type 0} {t : Time K} {floors : List K} {arcs : List (Arc K)} (old : List K) → InLimits t floors arcs → length old ≡ length floors → Sound t (length old) arcs

@@ -14,7 +14,7 @@ row_read : (n : ℕ) (rows : List ℕ) (k u : ℕ) → u < n → get_or rows (k 
 row_read n rows k u h = sym (get_or-take n (drop (k * n) rows) u 0 h ∙ get_or-drop (k * n) rows u 0)
 
 -- the part of a path from s up to e
-part_is : (path : List ℕ) (s e : ℕ) → s < e → drop s (take e path) ≡ take (e - s) (drop s path)
+pub part_is : (path : List ℕ) (s e : ℕ) → s < e → drop s (take e path) ≡ take (e - s) (drop s path)
 part_is path s e h =
     let q : s + (e - s) ≡ e = omega arith in
     ap (λ i. drop s (take i path)) (sym q) ∙ drop-take s (e - s) path

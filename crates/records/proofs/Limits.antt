@@ -12,7 +12,7 @@ use Rattle.records.proofs.Counts.{place_below, place_at}
 
 module _ {K : Type 0} (t : Time K) (tracks : List (Track K)) (runs : List (Run K)) (connections : List (Connection K)) (settings : List ℕ) where
   -- how many orders the runs have
-  abbrev orders : ℕ
+  abbrev pub orders : ℕ
   orders = total (track_of t runs) (length runs)
 
   -- what the bytes hold is what the settings are
@@ -31,6 +31,9 @@ module _ {K : Type 0} (t : Time K) (tracks : List (Track K)) (runs : List (Run K
 
   pub order_flags : Limits t (register_from t tracks runs connections settings) → FlagsStored settings 0 orders
   order_flags s = record { each = λ k h. (let r = place_at (track_of t runs) (length runs) k h in let e : place (track_of t runs) r.0 r.1 ≡ 0 + k = omega (arith, r.3) in let P : ℕ → Type 0 = λ k. get_or settings k 0 ≤ 1 in subst P e (s.orders r.0 r.1 r.2)) }
+
+  pub link_flags : Limits t (register_from t tracks runs connections settings) → FlagsStored settings 4096 (length connections)
+  link_flags s = record { each = s.links }
 
 -- each run of a register that keeps the limits names one of 64 tracks
 pub on_tracks : {K : Type 0} (t : Time K) (R : Register K) → Limits t R → OnTracks t R.runs

@@ -1,5 +1,5 @@
 -- Lists of rows that match, one by one, answer alike.
-use Rattle.std.proofs.Common.{◌≡◌, ℕ, List, [], ◌∷◌, ◌++◌, Ok, Err, Result, refl, ◌∙◌, inl, inr}
+use Rattle.std.proofs.Common.{◌≡◌, ℕ, List, [], ◌∷◌, ◌++◌, Ok, Err, Result, sym, refl, ◌∙◌, inl, inr}
 use Rattle.network.specs.Refusals.{Row, Passed, First, Answers}
 use Rattle.registers.specs.Rows.{Answered}
 
@@ -20,6 +20,13 @@ Matching (x ∷ xs) (y ∷ ys) = RowMatches x y × ((x.when → ⊥) → Matchin
 pub matching_refl : (xs : List Row) → Matching xs xs
 matching_refl [] = tt
 matching_refl (x ∷ xs) = (record { number = refl; place = refl; there = λ w. w; back = λ w. w }, λ _. matching_refl xs)
+
+pub matching_sym : (xs ys : List Row) → Matching xs ys → Matching ys xs
+matching_sym [] [] m = tt
+matching_sym [] (y ∷ ys) m = m
+matching_sym (x ∷ xs) [] m = m
+matching_sym (x ∷ xs) (y ∷ ys) m =
+    (record { number = sym m.0.number; place = sym m.0.place; there = m.0.back; back = m.0.there }, λ off. matching_sym xs ys (m.1 (λ w. off (m.0.there w))))
 
 -- the rows behind need match only where none in front applies
 pub matching_more : (xs ys us vs : List Row) → Matching xs ys → (Passed xs → Matching us vs) → Matching (xs ++ us) (ys ++ vs)

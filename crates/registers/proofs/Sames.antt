@@ -43,6 +43,10 @@ module _ {K : Type 0} where
       links = λ c l. h.links c l ∙ k.links c (inside_at S.connections R.connections c (sym h.connections) l);
     }
 
+    -- equal registers say the same
+    pub same_equal : (R S : Register K) → R ≡ S → Same t R S
+    same_equal R S e = let P : Register K → Type 0 = Same t R in subst P e (same_refl R)
+
     -- R with the settings of S is S
     pub settled : (R S : Register K) → Same t R S → with_settings R S.order S.link ≡ S
     settled R S h =

@@ -1,5 +1,5 @@
 -- What is known once no row of a call applies.
-use Rattle.std.proofs.Common.{◌≡◌, ℕ, ◌*◌, ◌/◌, ◌%◌, ◌<◌, ◌≤◌, true, false, List, [], ◌∷◌, ◌++◌, length, ◌≢◌, IfSome, Some, None, Option, refl, inl, inr, arith, MatchOption}
+use Rattle.std.proofs.Common.{◌≡◌, ℕ, ◌*◌, ◌/◌, ◌%◌, ◌<◌, ◌≤◌, true, false, List, [], ◌∷◌, ◌++◌, length, get_or, ◌≢◌, IfSome, Some, None, Option, refl, inl, inr, arith, MatchOption}
 use Rattle.std.proofs.lemmas.Bool.{cases_eq, cases_Bool}
 use Rattle.kinds.specs.Time.{Time}
 use Rattle.network.specs.Refusals.{Row, Passed}
@@ -8,12 +8,12 @@ use Rattle.records.specs.declared.Run.{Run}
 use Rattle.records.specs.declared.Connection.{Connection}
 use Rattle.records.specs.Records.{run_at, track_of}
 use Rattle.records.specs.Places.{Ordered}
-use Rattle.records.specs.Register.{Register}
+use Rattle.records.specs.Register.{Register, Memory, all_of}
 use Rattle.records.specs.Stored.{Sized, Duration, TrackStored, Linked, Scheduled, ConnectionStored, Limits}
 use Rattle.records.proofs.Counts.{place_below}
 use Rattle.rules.specs.declared.switches.Switch.{Switch}
 use Rattle.rules.specs.declared.switches.Switch.TheVariants as switch
-use Rattle.rules.specs.Rows.{Given, NotEarlier, NoDuration, track_rows, orders_with, run_rows, connection_rows, switch_rows, setting_place, setting_rows, turning_rows, report_rows, hold_rows, release_rows}
+use Rattle.rules.specs.Rows.{Given, NotEarlier, NoDuration, TooLate, track_rows, orders_with, run_rows, connection_rows, switch_rows, setting_place, setting_of, setting_rows, turning_rows, event_rows, report_rows, hold_rows, release_rows}
 
 -- of more rows that do not apply the first do not
 pub passed_front : (xs ys : List Row) → Passed (xs ++ ys) → Passed xs
@@ -84,7 +84,12 @@ module _ {K : Type 0} (t : Time K) where
   pub link_passed : (R : Register K) (c : ℕ) → Passed (switch_rows t R (switch.Connection c)) → c < length R.connections
   link_passed R c p = omega arith
 
-  -- the place of a switch's setting is inside
+  -- the setting of a switch is the byte at its place
+  pub setting_read : (m : Memory K) (s : Switch) → setting_of t (all_of t m) s ≡ get_or m.settings (setting_place t (all_of t m) s) 0
+  setting_read m (switch.Order i j) = refl
+  setting_read m (switch.Connection c) = refl
+
+  -- that place is inside
   pub setting_inside : (R : Register K) (s : Switch) → Limits t R → Passed (switch_rows t R s) → setting_place t R s < 4608
   setting_inside R (switch.Order i j) l p = let h = place_below (track_of t R.runs) (length R.runs) i j (order_passed R i j p) in omega (arith, l.few_orders)
   setting_inside R (switch.Connection c) l p = omega (arith, l.few_connections)
@@ -96,9 +101,19 @@ module _ {K : Type 0} (t : Time K) where
   pub setting_flag : (R : Register K) (s : Switch) (v : ℕ) → Passed (setting_rows t R s v) → v ≤ 1
   setting_flag R s v p = let h = (passed_back (switch_rows t R s) _ p).0 in omega arith
 
+  pub setting_new : (R : Register K) (s : Switch) (v : ℕ) → Passed (setting_rows t R s v) → setting_of t R s ≢ v
+  setting_new R s v p = (passed_back (switch_rows t R s) _ p).1.0
+
   -- turning a switch
   pub turning_set : (R : Register K) (s : Switch) (v : ℕ) → Passed (turning_rows t R s v) → Passed (setting_rows t R s v)
   turning_set R s v p = passed_front (setting_rows t R s v) _ p
+
+  pub turning_timely : (R : Register K) (s : Switch) (v : ℕ) → Passed (turning_rows t R s v) → TooLate t R s → ⊥
+  turning_timely R s v p = (passed_back (setting_rows t R s v) _ p).0
+
+  -- events, reports and holds
+  pub event_passed : (R : Register K) (v : ℕ) → Passed (event_rows t R v) → v < 2 * length R.runs
+  event_passed R v p = omega arith
 
   pub record ReportPassed (R : Register K) (v : ℕ) (at : K) : Type 0 where
     pub known : v < 2 * length R.runs
