@@ -52,12 +52,14 @@ module _ {K : Type 0} (t : Time K) where
     pub lengths : Lengthy (lengths_of h)
     pub events : length (kept_floors h.network) ≡ h.network.events
     pub few : h.network.events ≤ 1024
+    pub few_arcs : h.network.arc_count ≤ 9728
 
   pub checked : (h : Handed K) → Passed (first_rows t h) → Checked h
   checked h p =
       let long = lengthy (lengths_of h) (p.0, (p.1.0, (p.1.1.0, (p.1.1.1.0, (p.1.1.1.1.0, (p.1.1.1.1.1.0, tt)))))) in
       let few = not_over h.network.events 1024 p.1.1.1.1.1.1.1.1.1.0 in
-      record { lengths = long; few = few; events = length-take-le h.network.events h.network.floors (omega arith) }
+      let few_arcs = not_over h.network.arc_count 9728 p.1.1.1.1.1.1.1.1.1.1.0 in
+      record { lengths = long; few = few; few_arcs = few_arcs; events = length-take-le h.network.events h.network.floors (omega arith) }
 
   -- no fault before the reckoning is a ring
   pub not_ring : (h : Handed K) (l : Listed K) (ring : List ℕ) (f : NetworkFault) → First (first_rows t h) (network_number f) (network_place f) → RingAfter t l ring ring f
