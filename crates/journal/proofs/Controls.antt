@@ -137,7 +137,7 @@ module _ {K : Type 0} (t : Time K) (laws : Laws t) (o : Open) (m : Memories K) (
   }
 
   -- the open plan with another register, whose runs are held as they were
-  open_stands : (r' : Lists K) (m' : Memory K) (times' : List K) (R : Register K) → memory o.numbers r' ≡ m' → Stored t m' → Same t (register_of t m') R → length R.runs ≡ length B.register.runs → ((r : ℕ) → (run_at t R.runs r).hold ≡ (run_at t B.register.runs r).hold) → Least t (in_force t R) (at t times') → Stands t (with_register B R) (state_of (stage.Open o) r' times' m.slips.now)
+  pub open_stands : (r' : Lists K) (m' : Memory K) (times' : List K) (R : Register K) → memory o.numbers r' ≡ m' → Stored t m' → Same t (register_of t m') R → length R.runs ≡ length B.register.runs → ((r : ℕ) → (run_at t R.runs r).hold ≡ (run_at t B.register.runs r).hold) → Least t (in_force t R) (at t times') → Stands t (with_register B R) (state_of (stage.Open o) r' times' m.slips.now)
   open_stands r' m' times' R written stored same long holds least =
       let P : Memory K → Type 0 = λ x. Stored t x × Same t (register_of t x) R in
       let here : P (memory o.numbers r') = subst P (sym written) (stored, same) in
@@ -156,10 +156,10 @@ module _ {K : Type 0} (t : Time K) (laws : Laws t) (o : Open) (m : Memories K) (
         own = λ r x e. (let w = st.own r x e in let z = w.2 in (w.0, w.1, omega arith));
       }
 
-  turned_same : (s : Switch) (setting : ℕ) → Passed (turning_rows t was s setting) → Same t (register_of t (switch_memory t before s setting)) (set_switch B.register s setting)
+  pub turned_same : (s : Switch) (setting : ℕ) → Passed (turning_rows t was s setting) → Same t (register_of t (switch_memory t before s setting)) (set_switch B.register s setting)
   turned_same s setting fine = same_trans t _ _ _ ((steps_of t before st.stored records).switch s setting (setting_named t was s setting (turning_set t was s setting fine))) (set_switch_kept t was B.register st.same s setting)
 
-  reported_same : (v : ℕ) (x : K) → Passed (report_rows t was v x) → Same t (register_of t (report_memory t before v x)) (report t B.register v x)
+  pub reported_same : (v : ℕ) (x : K) → Passed (report_rows t was v x) → Same t (register_of t (report_memory t before v x)) (report t B.register v x)
   reported_same v x fine =
       let long = long_was in
       let known = (report_passed t was v x fine).known in

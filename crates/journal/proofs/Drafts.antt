@@ -125,7 +125,7 @@ module _ {K : Type 0} (t : Time K) (d : Draft) (m : Memories K) (work : Work K) 
   kept = limits_kept_lem t
 
   -- the draft with other records stands for the books with another register
-  draft_stands : (d' : Draft) (r' : Lists K) (m' : Memory K) (R : Register K) → memory d'.numbers r' ≡ m' → d'.numbers.number ≡ d.numbers.number
+  pub draft_stands : (d' : Draft) (r' : Lists K) (m' : Memory K) (R : Register K) → memory d'.numbers r' ≡ m' → d'.numbers.number ≡ d.numbers.number
       → m'.track_count ≤ 64 → m'.run_count ≤ 512 → m'.connection_count ≤ 512 → Same t (register_of t m') R → Limits t R → Drafted t R → ((r : ℕ) → r < length B.register.runs → r < length R.runs)
       → Stands t (with_register B R) (state_of (stage.Draft d') r' m.times.now m.slips.now)
   draft_stands d' r' m' R written number a b c same good fresh grows =
@@ -158,7 +158,7 @@ module _ {K : Type 0} (t : Time K) (d : Draft) (m : Memories K) (work : Work K) 
 
   module _ (ring : List ℕ) (trial : List K) where
     -- a refused call: own are the rows of the call, by register
-    draft_refused : (c : Call K) (own : Register K → List Row) → call_rows t (sizes m work) B c ≡ drafting t (sizes m work) B (own B.register) → Answered (own was) (own B.register) → Under 12 (own was) → (f : PlanFault) → First (draft_rows t before ++ own was) (plan_number f) (plan_place f) → Told t (sizes m work) B c (Err (fault.Plan f)) ring trial
+    pub draft_refused : (c : Call K) (own : Register K → List Row) → call_rows t (sizes m work) B c ≡ drafting t (sizes m work) B (own B.register) → Answered (own was) (own B.register) → Under 12 (own was) → (f : PlanFault) → First (draft_rows t before ++ own was) (plan_number f) (plan_place f) → Told t (sizes m work) B c (Err (fault.Plan f)) ring trial
     draft_refused c own is same_answer under f first =
         let here = first_behind (draft_rows t before) (own was) _ _ draft_passed first in
         record {
@@ -167,11 +167,11 @@ module _ {K : Type 0} (t : Time K) (d : Draft) (m : Memories K) (work : Work K) 
           named = none_told t (to_force t B c) ring (own was) under f here;
         }
 
-    own_passed : (own : Register K → List Row) → Answered (own was) (own B.register) → Passed (draft_rows t before ++ own was) → Passed (own B.register)
+    pub own_passed : (own : Register K → List Row) → Answered (own was) (own B.register) → Passed (draft_rows t before ++ own was) → Passed (own B.register)
     own_passed own same_answer passed = same_answer.passed (passed_back (draft_rows t before) (own was) passed)
 
     -- a taken call
-    draft_taken : (c : Call K) (own : Register K → List Row) → call_rows t (sizes m work) B c ≡ drafting t (sizes m work) B (own B.register) → Answered (own was) (own B.register) → (a : Answer K) → Carries t B c a trial → Passed (draft_rows t before ++ own was) → Told t (sizes m work) B c (Ok a) ring trial
+    pub draft_taken : (c : Call K) (own : Register K → List Row) → call_rows t (sizes m work) B c ≡ drafting t (sizes m work) B (own B.register) → Answered (own was) (own B.register) → (a : Answer K) → Carries t B c a trial → Passed (draft_rows t before ++ own was) → Told t (sizes m work) B c (Ok a) ring trial
     draft_taken c own is same_answer a carried passed = record {
       answers = passed_at (drafting t (sizes m work) B (own B.register)) (call_rows t (sizes m work) B c) (sym is) (fronts_pass (own B.register) (own_passed own same_answer passed));
       carried = carried;

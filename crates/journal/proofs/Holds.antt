@@ -1,7 +1,7 @@
 -- Holds and releases as steps from books to books: the slip of a held run lies in its slot.
-use Rattle.std.proofs.Common.{◌≡◌, ℕ, zero, suc, ◌<◌, ◌≤◌, true, false, List, [], ◌∷◌, ◌++◌, map, length, get_or, set, is_some, Some, None, Ok, Err, Option, sym, refl, ap, ◌∙◌, subst, inl, inr, arith, length-set, set-set}
+use Rattle.std.proofs.Common.{◌≡◌, ℕ, zero, suc, ◌<◌, ◌≤◌, true, false, List, [], ◌∷◌, ◌++◌, map, length, get_or, take, set, is_some, Some, None, Ok, Err, Option, sym, refl, ap, ◌∙◌, subst, inl, inr, arith, length-set, set-set}
 use Rattle.std.proofs.lemmas.Bool.{false≢true, cases_eq}
-use Rattle.std.proofs.lemmas.List.{get_or-set_same, get_or-set_other, map-set}
+use Rattle.std.proofs.lemmas.List.{length-take, get_or-set_same, get_or-set_other, map-set}
 use lib.Seq.{set-get_or}
 use Rattle.kinds.specs.Time.{Time, Laws}
 use Rattle.network.specs.Network.{Least}
@@ -69,6 +69,14 @@ pub none_of : {X : Type 0} (o : Option X) → is_some o ≡ false → o ≡ None
 none_of None e = refl
 none_of (Some x) e = absurd (false≢true (sym e))
 
+-- a run that is entered has a slot
+pub kept_inside : {X : Type 0} (n : ℕ) (xs : List X) (r slots : ℕ) → r < length (take n xs) → length xs ≡ 512 → slots ≡ 512 → r < slots
+kept_inside n xs r slots h e f = let z = length-take n xs in omega (arith, z)
+
+-- an empty slot that is emptied stays as it is
+pub emptied : {X : Type 0} (xs : List (Option X)) (i : ℕ) → get_or xs i None ≡ None → set xs i None ≡ xs
+emptied xs i e = ap (set xs i) (sym e) ∙ set-get_or xs i None
+
 pub slot_inside : {X : Type 0} (xs : List (Option X)) (i : ℕ) (x : X) → get_or xs i None ≡ Some x → i < length xs
 slot_inside [] i x e = absurd (none_some e)
 slot_inside (y ∷ ys) zero x e = omega arith
@@ -111,7 +119,7 @@ module _ {K : Type 0} (t : Time K) (laws : Laws t) (o : Open) (m : Memories K) (
   long_books : length B.slips ≡ 512
   long_books = ap length (sym st.slips) ∙ length_map is_some m.slips.now ∙ long_slips
 
-  held_same : (r : ℕ) (until : Option K) → r < o.numbers.runs → Same t (register_of t (hold_memory t before r until)) (hold t B.register r until)
+  pub held_same : (r : ℕ) (until : Option K) → r < o.numbers.runs → Same t (register_of t (hold_memory t before r until)) (hold t B.register r until)
   held_same r until h = same_trans t _ _ _ ((steps_of t before st.stored (records t laws o m work listed B st)).hold r until h) (hold_kept t was B.register st.same r until)
 
   -- the plan with run r held until a time or free, and its slot so
@@ -205,14 +213,14 @@ module _ {K : Type 0} (t : Time K) (laws : Laws t) (o : Open) (m : Memories K) (
         let Q : List (Run K) → Type 0 = λ rs. Given (run_at t rs r).hold in
         subst P (sym mine.1) (subst Q (sym st.same.runs) ((st.held yes_open r mine.2).0 full))
 
-    release_passes : Passed (release_rows t was o.numbers.number s.plan s.run)
+    pub release_passes : Passed (release_rows t was o.numbers.number s.plan s.run)
     release_passes =
         let z = length_was in
         let h = inside in
         let e = mine.1 in
         ((λ ne. ne (mine.0 ∙ sym st.number)), ((λ past. omega arith), ((λ none. none given), tt)))
 
-    release_off : Passed (rows ++ release_rows t was o.numbers.number s.plan s.run)
+    pub release_off : Passed (rows ++ release_rows t was o.numbers.number s.plan s.run)
     release_off = passed_more rows (release_rows t was o.numbers.number s.plan s.run) passes release_passes
 
     freed : Same t (register_of t (hold_memory t before s.run None)) (hold t B.register r None)
@@ -246,7 +254,26 @@ module _ {K : Type 0} (t : Time K) (laws : Laws t) (o : Open) (m : Memories K) (
             subst (Stands t B) (same_state refl (sym e) (sym k.shows) (sym back)) st,
           )
 
-  -- a run whose slip is kept is held already
+  -- a run whose slot is empty is not released
+  pub release_misused : (r : ℕ) → get_or m.slips.now r None ≡ None → Told t (sizes m work) B (call.Release r) (Err fault.Misuse) ring trial
+  release_misused r e = record {
+    answers = inr ((λ c. false≢true (sym c ∙ yes_open)), inl (ap (λ bs. get_or bs r false) (sym st.slips) ∙ get_or_map m.slips.now r ∙ ap is_some e, refl, refl));
+    carried = tt;
+    named = tt;
+  }
+
+  -- a run whose slip is kept is held already, and a time over its size is told first
+  pub hold_over : (r : ℕ) (until : K) → is_some (get_or m.slips.now r None) ≡ true → Over t until → Told t (sizes m work) B (call.Hold r until) (Err (fault.Plan refused.Time)) ring trial
+  hold_over r until some over =
+      let s = some_of (get_or m.slips.now r None) some in
+      let inside = (mine r s.0 s.1).2 in
+      let own = hold_rows t B.register r until ++ ring_rows t (hold t B.register r (Some until)) in
+      record {
+        answers = fronts_first t laws o m work listed B st own 4 0 (inr ((λ past. omega arith), inl (over, refl, refl)));
+        carried = tt;
+        named = tt;
+      }
+
   pub hold_again : (r : ℕ) (until : K) → is_some (get_or m.slips.now r None) ≡ true → (Over t until → ⊥) → Told t (sizes m work) B (call.Hold r until) (Err (fault.Plan refused.Already)) ring trial
   hold_again r until some fits =
       let s = some_of (get_or m.slips.now r None) some in

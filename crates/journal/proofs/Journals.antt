@@ -6,6 +6,7 @@ use Rattle.kinds.specs.Time.{Time}
 use Rattle.journal.specs.declared.calls.Line.{Line}
 use Rattle.journal.specs.declared.calls.Call.{Call}
 use Rattle.records.specs.Lent.{Lists}
+use Rattle.plan.specs.Calls.{lengths}
 use Rattle.plan.specs.declared.states.Slip.{Slip}
 use Rattle.plan.specs.Drafting.{blank}
 use Rattle.journal.specs.declared.calls.Plan.TheVariants as stage
@@ -42,6 +43,10 @@ module _ {K : Type 0} where
       let P : List (Line K) → Type 0 = λ ys. ToldAll t l B ys × Stands t (registered t B ys) s' in
       subst P (sym (take_more_set xs i x h))
       (told_more t l B (take i xs) x ring trial so_far.0 here, subst S (sym (registered_more t B (take i xs) x)) both.1)
+
+-- lengths of times, ring and working memory that are equal one by one
+pub same_work : {a b c d e f g a' b' c' d' e' f' g' : ℕ} → a ≡ a' → b ≡ b' → c ≡ c' → d ≡ d' → e ≡ e' → f ≡ f' → g ≡ g' → lengths a b (record { places = c; floors = d; arcs = e; tables = f; marks = g }) ≡ lengths a' b' (record { places = c'; floors = d'; arcs = e'; tables = f'; marks = g' })
+same_work p q r s t u v = cc
 
 none_at : (n r : ℕ) → get_or (replicate n false) r false ≡ false
 none_at zero r = refl

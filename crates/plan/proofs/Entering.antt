@@ -3,7 +3,7 @@ use Rattle.std.proofs.Common.{◌≡◌, ℕ, ◌+◌, ◌<◌, ◌≤◌, List,
 use Rattle.std.proofs.lemmas.Bool.{cases_lt}
 use Rattle.std.proofs.lemmas.List.{get_or-set_same, get_or-set_other, get_or-take}
 use Rattle.kinds.specs.Time.{Time}
-use Rattle.network.specs.Refusals.{Answers}
+use Rattle.network.specs.Refusals.{Answers, Passed}
 use Rattle.records.specs.declared.Run.{Run}
 use Rattle.records.specs.declared.Track.{Track}
 use Rattle.records.specs.declared.Connection.{Connection}
@@ -14,10 +14,14 @@ use Rattle.records.proofs.Counts.{total_more, total_kept, count_kept}
 use Rattle.rules.specs.declared.faults.PlanFault.{PlanFault}
 use Rattle.rules.specs.Faults.{plan_number, plan_place}
 use Rattle.rules.specs.declared.switches.Switch.{Switch}
-use Rattle.rules.specs.Rows.{SoundDraft, track_rows, run_rows, connection_rows, setting_place, PlaceOf}
+use Rattle.rules.specs.Rows.{SoundDraft, track_rows, run_rows, connection_rows, switch_rows, setting_rows, setting_place, PlaceOf}
 use Rattle.plan.specs.Steps.{orders_entered, orders_added}
 use Rattle.plan.proofs.Stays.{long_runs}
-use Rattle.rules.proofs.Rows.{run_passed}
+use Rattle.rules.proofs.Rows.{run_passed, setting_named}
+
+-- no more records are entered than there are
+abbrev pub Fits : {K : Type 0} → Memory K → Type 0
+Fits m = (m.track_count ≤ length m.tracks) × ((m.run_count ≤ length m.runs) × (m.connection_count ≤ length m.connections))
 
 module _ {K : Type 0} (t : Time K) where
   -- there is room for what is taken
@@ -40,6 +44,20 @@ module _ {K : Type 0} (t : Time K) where
         let f = track_of t (take m.run_count m.runs) in
         let e = ap (λ (i : ℕ). total f i + count f x.track i) long in
         (sound, (omega (arith, h.room, long), (omega (arith, h.linked.1.0, sound.stored.limits.few_tracks), omega (arith, h.orders))))
+
+    pub fits : Fits m
+    fits =
+        let s = sound.stored in
+        let l = sound.listed in (omega (arith, s.few_tracks, l.tracks), (omega (arith, s.few_runs, l.runs), omega (arith, s.few_connections, l.connections)))
+
+    -- what is taken names what is entered
+    pub switch_known : {X : Type 0} (s : Switch) (r : Result X PlanFault) → Answers plan_number plan_place (switch_rows t (register_of t m) s) r → IfOk r (λ _. SoundDraft t m × Passed (switch_rows t (register_of t m) s))
+    switch_known s (Err f) a = tt
+    switch_known s (Ok u) a = (sound, a)
+
+    pub preset_known : {X : Type 0} (s : Switch) (v : ℕ) (r : Result X PlanFault) → Answers plan_number plan_place (setting_rows t (register_of t m) s v) r → IfOk r (λ _. SoundDraft t m × Passed (switch_rows t (register_of t m) s))
+    preset_known s v (Err f) a = tt
+    preset_known s v (Ok u) a = (sound, setting_named t (register_of t m) s v a)
 
     -- where the byte of a switch lies that is named in what is entered
     pub place_known : (R : Register K) → R ≡ register_of t m → (s : Switch) (a : Result ℕ PlanFault) → IfOk a (PlaceOf t R s) → IfOk a (λ p. (p ≡ setting_place t (register_of t m) s) × (p < length m.settings))

@@ -23,7 +23,7 @@ abbrev pub taken : (X : Type 0) → X → Result X PlanFault
 taken X x = Ok x
 
 -- the fault of the network stays whole inside the plan's
-abbrev pub lifted : Result (Unit {0}) NetworkFault → Result (Unit {0}) PlanFault
+abbrev pub lifted : {X : Type 0} → Result X NetworkFault → Result X PlanFault
 lifted (Ok x) = Ok x
 lifted (Err f) = Err (fault.Network f)
 
